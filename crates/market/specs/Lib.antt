@@ -1,0 +1,5 @@
+pub mod Letters
+pub mod Causes
+pub mod Faults
+pub mod Days
+pub mod Texts
