@@ -1,2 +1,4 @@
 pub mod Lex
+pub mod Laws
 pub mod Narrowing
+pub mod EveryRank
