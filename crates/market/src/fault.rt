@@ -76,16 +76,16 @@ impl Cause {
 pub impl From<Unpriced> for Fault as FaultFromPolicy {
     ghost converts = { λ u r. r ≡ NoPrice u };
 
-    fn from(unpriced: Unpriced) -> Fault {
-        Fault::NoPrice(unpriced)
+    fn from(found: Unpriced) -> Fault {
+        Fault::NoPrice(found)
     }
 }
 
 pub impl From<Unaveraged> for Fault as FaultFromSource {
     ghost converts = { λ u r. r ≡ NoAverage u };
 
-    fn from(unaveraged: Unaveraged) -> Fault {
-        Fault::NoAverage(unaveraged)
+    fn from(found: Unaveraged) -> Fault {
+        Fault::NoAverage(found)
     }
 }
 

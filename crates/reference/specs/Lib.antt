@@ -6,3 +6,4 @@ pub mod Spreads
 pub mod Years
 pub mod Histories
 pub mod HistoryBounds
+pub mod Figures

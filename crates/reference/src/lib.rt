@@ -1,4 +1,5 @@
 // Reference prices: what a policy is, and the policies that come with the book.
+pub mod figures;
 pub mod history;
 pub mod percentile;
 pub mod policy;
