@@ -3,16 +3,15 @@ ghost use mathlib.Core.Path.{_≡_};
 ghost use Rattle.std.specs.Of.String.{string-bytes};
 ghost use Rattle.std.specs.Vec.{made};
 ghost use Rattle.day.specs.Lines.{sideText, priceText, noPriceText, quoteText, refusalText, badWordText};
-
 use market::bounds::Number;
 use market::bounds::Rate;
 use market::fault::Fault;
 use market::fault::PolicyFault;
+use market::fault_text::FaultDisplay;
+use market::fault_text::PolicyFaultDisplay;
 use market::words::Side;
 use std::alloc::AllocError;
 use std::alloc::Global;
-use market::fault_text::FaultDisplay;
-use market::fault_text::PolicyFaultDisplay;
 
 /// A side in words.
 fn side_name(side: Side) -> &'static str
@@ -32,14 +31,24 @@ fn price_line(heap: Global, location: Number, side: &str, price: Rate) -> Result
 }
 
 /// Why a location and side have no reference price.
-fn no_price_line(heap: Global, location: Number, side: &str, fault: PolicyFault) -> Result<String, AllocError>
+fn no_price_line(
+    heap: Global,
+    location: Number,
+    side: &str,
+    fault: PolicyFault,
+) -> Result<String, AllocError>
     ensures { λ r. ⌜ made r (λ s. string-bytes s ≡ noPriceText location (now (side .entry)) fault) ⌝ }
 {
     format!(heap, "location {location} {side}: no price, {fault}")
 }
 
 /// What a policy answered of a location and side.
-pub fn quote_line(heap: Global, location: Number, side: Side, answer: Result<Rate, PolicyFault>) -> Result<String, AllocError>
+pub fn quote_line(
+    heap: Global,
+    location: Number,
+    side: Side,
+    answer: Result<Rate, PolicyFault>,
+) -> Result<String, AllocError>
     ensures { λ r. ⌜ made r (λ s. string-bytes s ≡ quoteText location side answer) ⌝ }
 {
     match answer {

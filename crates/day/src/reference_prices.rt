@@ -14,7 +14,11 @@ use reference::policy::Policy;
 use std::error::AnyError;
 
 /// Prints both prices of a location.
-fn show_location(rt: &LibcRuntime, history: &mut History, location: Number) -> Result<(), AnyError> {
+fn show_location(
+    rt: &LibcRuntime,
+    history: &mut History,
+    location: Number,
+) -> Result<(), AnyError> {
     let supply = history.quote(location, Side::Supply);
     rt.println(quote_line(rt.alloc(), location, Side::Supply, supply)?)?;
     let demand = history.quote(location, Side::Demand);
@@ -30,7 +34,10 @@ fn show_prices(rt: &LibcRuntime, list: &[i32], sizes: Sizes) -> Result<(), AnyEr
     }
     let locations = sizes.rows;
     let hours = sizes.columns;
-    println!(rt, "reference prices of {locations} locations from {hours} hours")?;
+    println!(
+        rt,
+        "reference prices of {locations} locations from {hours} hours"
+    )?;
     Ok(())
 }
 

@@ -9,9 +9,5 @@ pub fn index_from_one(number: i64, count: usize) -> Option<usize>
         return None;
     }
     let index = (number - 1) as usize;
-    if index < count {
-        Some(index)
-    } else {
-        None
-    }
+    if index < count { Some(index) } else { None }
 }

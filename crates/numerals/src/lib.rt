@@ -1,6 +1,5 @@
 // Numbers in a text, parted by white space.
 ghost use Rattle.numerals.specs.Numbers.{NumbersRead};
-
 use std::alloc::Global;
 
 /// Why a text gave no list of numbers.

@@ -36,7 +36,7 @@ first-passes p [] x e = absurd (none-is-not-some e)
 first-passes p (y ∷ ys) x e =
     ⊎-elim
     (λ t. let same : y ≡ x = cc (cond-true (p y) (Some y) (firstWith p ys) t) in
-      (subst (λ z. Has (y ∷ ys) z) same (has-here y ys), subst (λ z. p z ≡ true) same t))
+    (subst (λ z. Has (y ∷ ys) z) same (has-here y ys), subst (λ z. p z ≡ true) same t))
     (λ f. let r = first-passes p ys x (sym (cond-false (p y) (Some y) (firstWith p ys) f) ∙ e) in (has-later y x ys (r .0), r .1))
     (cases-bool (p y))
 
@@ -84,11 +84,13 @@ module _ {X : Type 0} (before : X → X → Bool) (strict : (x : X) → before x
   every-rank (y ∷ ys) a r h =
       ⊎-elim (λ e. (y, has-here y ys, omega (arith, ahead-cons y ys y, cond-false {A = ℕ} (before y y) 1 0 (strict y))))
       (⊎-elim
-        (λ low. let i = every-rank ys (a .1) r (omega (arith, countBy-le-length (λ z. before z y) ys)) in
-          (i .0, has-later y (i .0) ys (i .1), lower y ys r (i .0) (i .1) (i .2) low))
-        (λ high. let i = every-rank ys (a .1) (r - 1) (omega arith) in
-          (i .0, has-later y (i .0) ys (i .1),
-            upper y ys (r - 1) (i .0) (i .1) (all-has (λ z. y ≡ z → ⊥) ys (i .0) (a .0) (i .1)) (i .2) (omega arith) ∙ omega arith)))
+      (λ low. let i = every-rank ys (a .1) r (omega (arith, countBy-le-length (λ z. before z y) ys)) in
+      (i .0, has-later y (i .0) ys (i .1), lower y ys r (i .0) (i .1) (i .2) low))
+      (λ high. let i = every-rank ys (a .1) (r - 1) (omega arith) in (
+        i .0,
+        has-later y (i .0) ys (i .1),
+        upper y ys (r - 1) (i .0) (i .1) (all-has (λ z. y ≡ z → ⊥) ys (i .0) (a .0) (i .1)) (i .2) (omega arith) ∙ omega arith,
+      )))
       (cases-order r (ahead before y ys))
 
   -- so the first element of a rank is there

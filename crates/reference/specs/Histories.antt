@@ -29,7 +29,9 @@ use Rattle.reference.specs.Spreads.{referencePrice}
 
 abbrev pub historyLayout : Layout
 historyLayout = record {
-  layer = Policy; rows = 64; columns = 2209;
+  layer = Policy;
+  rows = 64;
+  columns = 2209;
   first = record { «per_cell» = 1; low = negsuc 999999; high = pos 1000000 };
   second = record { «per_cell» = 1; low = negsuc 11999999; high = pos 12000000 };
 }

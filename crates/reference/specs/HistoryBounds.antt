@@ -55,9 +55,9 @@ history-priced m n averages prices a b l s =
     let ts = ofLocation n l averages in
     let ds = ofLocation n l prices in
     let each = spreads-bounded s ts ds
-      (part-bounded (negsuc 11999999) (pos 12000000) (omega (arith, ints), omega (arith, ints)) averages ((natAbs l - 1) * n) n (λ k h. a ((natAbs l - 1) * n + k)))
-      (part-bounded (negsuc 999999) (pos 1000000) (omega (arith, ints), omega (arith, ints)) prices ((natAbs l - 1) * n) n (λ k h. b ((natAbs l - 1) * n + k)))
-      (length ts) in
+    (part-bounded (negsuc 11999999) (pos 12000000) (omega (arith, ints), omega (arith, ints)) averages ((natAbs l - 1) * n) n (λ k h. a ((natAbs l - 1) * n + k)))
+    (part-bounded (negsuc 999999) (pos 1000000) (omega (arith, ints), omega (arith, ints)) prices ((natAbs l - 1) * n) n (λ k h. b ((natAbs l - 1) * n + k)))
+    (length ts) in
     cond-both (isAmong m l) _ _ Priced
     (λ _. cond-both (eqb n 0) _ _ Priced (λ _. tt) (λ _. first-bounded _ _ each))
     (λ _. tt)

@@ -4,7 +4,6 @@ ghost use Prim.Native.Nat.{_≤_, _<_};
 ghost use lib.ListN.{length, take};
 ghost use Rattle.reference.specs.Percentile.{PercentileRank, percentileRank};
 ghost use Rattle.reference.specs.Spreads.{spreadOf, spreadsTo, PriceOf, referencePrice, Referenced};
-
 use market::bounds::Rate;
 use market::words::Side;
 use rank::pick::pick;

@@ -5,7 +5,6 @@ ghost use Rattle.std.specs.declared.result.Result.{Result};
 ghost use Rattle.market.specs.declared.fault.PolicyFault.{PolicyFault};
 ghost use Rattle.market.specs.declared.words.Side.{Side};
 ghost use Rattle.reference.specs.Prices.{Priced, asked, priceOrRefuse};
-
 use market::bounds::Number;
 use market::bounds::Rate;
 use market::fault::Fault;
@@ -40,7 +39,11 @@ fn ask<P: Policy>(policy: &mut P, location: Number, side: Side) -> Result<Rate, 
 }
 
 /// A policy's price, or refusal 6 of the location that was asked for, with the policy's fault whole.
-pub fn price_or_refuse<P: Policy>(policy: &mut P, location: Number, side: Side) -> Result<Rate, Fault>
+pub fn price_or_refuse<P: Policy>(
+    policy: &mut P,
+    location: Number,
+    side: Side,
+) -> Result<Rate, Fault>
     ensures answers_by_meaning { λ r. ⌜ r ≡ priceOrRefuse location (meaning (now (policy .entry)) location side) ⌝ }
     ensures keeps_the_meaning { λ _. ⌜ meaning (now (policy .exit)) ≡ meaning (now (policy .entry)) ⌝ }
 {

@@ -15,6 +15,9 @@ pub struct Posted {
 
 impl Drop for Posted {
     fn drop(self) {
-        let Posted { supply: _, demand: _ } = self;
+        let Posted {
+            supply: _,
+            demand: _,
+        } = self;
     }
 }

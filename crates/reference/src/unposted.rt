@@ -1,6 +1,5 @@
 // A policy of faults alone, which is lawful: it has a price for no location.
 ghost use Rattle.reference.specs.Prices.{missing, missing-priced};
-
 use crate::policy::Policy;
 use market::bounds::Number;
 use market::bounds::Rate;

@@ -37,8 +37,14 @@ returns-in-rest c =
     let none = c .in-rest .ensures tt .reads .0 in (
       vec-items (c .loop-word .numbers),
       sym (c .len .ensures ∙ c .loop-word .numbers .ok .0),
-      (split-whitespace-rest (c .loop-word .word-iterator), c .in-Some .word .now, split-whitespace-rest (c .next .last .self), c .loop-word .inv, first,
-        λ x n. none (n .0, subst (SFits w32) (sym (n .2)) (n .1))),
+      (
+        split-whitespace-rest (c .loop-word .word-iterator),
+        c .in-Some .word .now,
+        split-whitespace-rest (c .next .last .self),
+        c .loop-word .inv,
+        first,
+        λ x n. none (n .0, subst (SFits w32) (sym (n .2)) (n .1)),
+      ),
     )
 
 pub returns : need.returns

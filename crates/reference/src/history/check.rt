@@ -2,7 +2,6 @@
 ghost use mathlib.Core.Path.{_≡_};
 ghost use Rattle.lists.specs.Lists.{Checked, Passed};
 ghost use Rattle.reference.specs.Histories.{historyLayout, Holds, HoldsNothing, HistoryOver};
-
 use super::History;
 use lists::check::check;
 use lists::layout::Block;

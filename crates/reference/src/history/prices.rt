@@ -4,7 +4,6 @@ ghost use Prim.Native.Nat.{_+_, _*_, _<_, _≤_};
 ghost use lib.ListN.{length, take, drop};
 ghost use Rattle.reference.specs.Histories.{historyPrice};
 ghost use Rattle.reference.specs.HistoryBounds.{history-priced};
-
 use super::History;
 use crate::percentile::reference_price;
 use crate::policy::Policy;

@@ -2,7 +2,6 @@
 ghost use mathlib.Core.Path.{_≡_};
 ghost use Rattle.reference.specs.Entries.{inReference};
 ghost use Rattle.reference.specs.Posted.{postedPrice, posted-priced, Posting, EmptyTable};
-
 use super::Posted;
 use crate::policy::Policy;
 use lists::counted::index_from_one;

@@ -38,7 +38,7 @@ returns-in-None c =
     let z = no-hours (c .in-Some .index) (h .locations) (h .hours) (h .averages .now) (h .«day_ahead» .now) _ _ (c .in-Some .ensures tt .2) (h .«few_hours») (h .«averages_whole») (h .«day_ahead_whole») (c .of-location-averages .ensures) (c .of-location-day-ahead .ensures) (c .in-None .ensures tt) in
     record {
       answers-by-meaning =
-        ap (λ (k : ℤ). Err (fault Missing k)) (toZ-ofZ w64 l (c .fits .location))
-        ∙ sym (missing-without-hours (h .locations) (h .hours) (h .averages .now) (h .«day_ahead» .now) l (c .args .side) among z);
+          ap (λ (k : ℤ). Err (fault Missing k)) (toZ-ofZ w64 l (c .fits .location))
+          ∙ sym (missing-without-hours (h .locations) (h .hours) (h .averages .now) (h .«day_ahead» .now) l (c .args .side) among z);
       keeps-the-meaning = refl;
     }
