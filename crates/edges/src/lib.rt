@@ -4,6 +4,8 @@ mod numbers;
 #[cfg(test)]
 mod ranks;
 #[cfg(test)]
+mod realtime;
+#[cfg(test)]
 mod references;
 #[cfg(test)]
 mod words;

@@ -1,0 +1,4 @@
+pub mod Sources
+pub mod Feeds
+pub mod Bounds
+pub mod Laws

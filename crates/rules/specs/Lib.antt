@@ -1,0 +1,12 @@
+pub mod Words
+pub mod Ledger
+pub mod Calls
+pub mod Credit
+pub mod Awards
+pub mod Position
+pub mod Adjustment
+pub mod Questions
+pub mod Rules
+pub mod Runs
+pub mod Readings
+pub mod Figures
