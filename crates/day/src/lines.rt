@@ -2,13 +2,16 @@
 ghost use mathlib.Core.Path.{_≡_};
 ghost use Rattle.std.specs.Of.String.{string-bytes};
 ghost use Rattle.std.specs.Vec.{made};
-ghost use Rattle.day.specs.Lines.{sideText, priceText, noPriceText, quoteText, refusalText, badWordText};
+ghost use Rattle.day.specs.Lines.{sideText, priceText, noPriceText, quoteText, averageText, refusalText, badWordText};
+use market::bounds::Hour;
 use market::bounds::Number;
 use market::bounds::Rate;
 use market::fault::Fault;
 use market::fault::PolicyFault;
+use market::fault::SourceFault;
 use market::fault_text::FaultDisplay;
 use market::fault_text::PolicyFaultDisplay;
+use market::fault_text::SourceFaultDisplay;
 use market::words::Side;
 use std::alloc::AllocError;
 use std::alloc::Global;
@@ -54,6 +57,21 @@ pub fn quote_line(
     match answer {
         Ok(price) => price_line(heap, location, side_name(side), price),
         Err(fault) => no_price_line(heap, location, side_name(side), fault),
+    }
+}
+
+/// The real-time average of a location and hour, in twelfths of a cent, or why there is none.
+pub fn average_line(
+    heap: Global,
+    location: Number,
+    hour: Hour,
+    answer: Result<Rate, SourceFault>,
+) -> Result<String, AllocError>
+    ensures { λ r. ⌜ made r (λ s. string-bytes s ≡ averageText location hour answer) ⌝ }
+{
+    match answer {
+        Ok(average) => format!(heap, "location {location} hour {hour}: {average}"),
+        Err(fault) => format!(heap, "location {location} hour {hour}: no average, {fault}"),
     }
 }
 

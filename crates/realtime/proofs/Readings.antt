@@ -1,6 +1,6 @@
 -- How the list that a feed lies over is read: a list that passed is as long as its sizes say and holds prices behind its marks. Assumes nothing.
 use mathlib.Core.Path.{_≡_, refl, sym, ap, subst, _∙_}
-use mathlib.Core.Bool.{Bool, true, false}
+use mathlib.Core.Bool.{Bool, true, false, not}
 use mathlib.Core.List.{List}
 use mathlib.Core.Logic.{_⊎_, inl, inr, ⊎-elim}
 use Prim.Native.Nat.{ℕ, _+_, _-_, _*_, _≤_, _<_}
@@ -8,23 +8,24 @@ use native.Mathlib.Nat.{mul-comm, mul-one, add-mul}
 use native.Mathlib.Omega.{arith}
 use lib.IntN.{ℤ, pos, natAbs}
 use lib.ListN.{length}
-use lib.Signed.{ltZ}
+use lib.Signed.{leZ}
 use Rattle.std.proofs.shelf.Bits.{mul-le, mul-add-lt}
 use Rattle.std.proofs.shelf.Signed.{ints}
-use Rattle.std.proofs.shelf.Tests.{or-from, or-left, or-right, or-parts, cond-true, cond-false, cases-bool}
+use Rattle.std.proofs.shelf.Tests.{and-parts, and-from, and-left, and-right, cases-bool, cond-true, cond-false}
 use Rattle.std.specs.declared.option.Option.the-variants.{Some}
 use Rattle.std.specs.declared.result.Result.the-variants.{Ok}
 use Rattle.market.specs.declared.fault.Cause.the-variants.{Outside}
 use Rattle.lists.specs.declared.layout.Sizes.{Sizes}
+use Rattle.lists.specs.Counted.{isAmong, CountedFromOne}
 use Rattle.lists.specs.Lists.{num, cells, Passed, Refused}
 use Rattle.lists.proofs.Blocks.{second-fits}
-use Rattle.realtime.specs.Feeds.{feedLayout, beyond, outside, cell, IndexAmong, CellAmong, isOne, published, average, faulty, feedMeaning, Stands, Priced}
+use Rattle.realtime.specs.Feeds.{feedLayout, outside, cell, CellAmong, isOne, published, average, faulty, feedMeaning, Stands, Priced}
 use Rattle.realtime.specs.Laws.{Whole, Opened, Among, ReadsAs, mark}
 
 -- a row and a column make a cell
-pub cell-among : (m n row column : ℕ) (l h : ℤ) → IndexAmong m l (Some row) → IndexAmong n h (Some column) → CellAmong m n l h (Some (row * n + column))
+pub cell-among : (m n row column : ℕ) (l h : ℤ) → CountedFromOne m l (Some row) → CountedFromOne n h (Some column) → CellAmong m n l h (Some (row * n + column))
 cell-among m n row column l h (a, p, i) (b, q, j) =
-    (or-from (beyond m l) (beyond n h) a b, cc, omega (arith, mul-add-lt row n column m i j, mul-comm m n))
+    (ap not (and-from (isAmong m l) (isAmong n h) a b), cc, omega (arith, mul-add-lt row n column m i j, mul-comm m n))
 
 pub stands-at : (per : ℕ) (xs : List ℤ) (all counted : ℕ) → counted ≡ all → Stands per xs all → Stands per xs counted
 stands-at per xs all counted e stands = subst (Stands per xs) (sym e) stands
@@ -69,21 +70,21 @@ module _ (per : ℕ) (xs : List ℤ) (s : Sizes) (w : Passed (feedLayout per) xs
     of-other = λ never. absurd (never (s, w));
   }
 
-among-beyond : (size : ℕ) (n : ℤ) → beyond size n ≡ false → Among (pos size) n
-among-beyond size n e =
-    let p = or-parts (ltZ n (pos 1)) (ltZ (pos size) n) e in
+among-test : (size : ℕ) (n : ℤ) → isAmong size n ≡ true → Among (pos size) n
+among-test size n e =
+    let p = and-parts (leZ (pos 1) n) (leZ n (pos size)) e in
     (grind (arith, ints), grind (arith, ints))
 
-not-beyond : (size : ℕ) (n : ℤ) → Among (pos size) n → beyond size n ≡ false
-not-beyond size n (a, b) = or-from (ltZ n (pos 1)) (ltZ (pos size) n) (grind (arith, ints)) (grind (arith, ints))
+test-among : (size : ℕ) (n : ℤ) → Among (pos size) n → isAmong size n ≡ true
+test-among size n (a, b) = and-from (leZ (pos 1) n) (leZ n (pos size)) (grind (arith, ints)) (grind (arith, ints))
 
-is-beyond : (size : ℕ) (n : ℤ) → (Among (pos size) n → ⊥) → beyond size n ≡ true
-is-beyond size n never = ⊎-elim (λ e. e) (λ e. absurd (never (among-beyond size n e))) (cases-bool (beyond size n))
+not-among : (size : ℕ) (n : ℤ) → (Among (pos size) n → ⊥) → isAmong size n ≡ false
+not-among size n never = ⊎-elim (λ e. absurd (never (among-test size n e))) (λ e. e) (cases-bool (isAmong size n))
 
 -- with no sizes all is outside
 none-outside : (per : ℕ) (xs : List ℤ) (l h : ℤ) → feedMeaning per xs 0 0 l h ≡ faulty Outside l
 none-outside per xs l h =
-    cond-true (outside 0 0 l h) _ _ (or-left (beyond 0 l) (beyond 0 h) (is-beyond 0 l (λ a. omega (arith, ints, a .0, a .1))))
+    cond-true (outside 0 0 l h) _ _ (ap not (and-left (isAmong 0 l) (isAmong 0 h) (not-among 0 l (λ a. omega (arith, ints, a .0, a .1)))))
 
 module _ (per : ℕ) (xs : List ℤ) (never : Whole per xs → ⊥) where
   pub refused-opened : Opened per xs 0 0
@@ -105,7 +106,7 @@ module _ (per : ℕ) (xs : List ℤ) (never : Whole per xs → ⊥) where
 module _ (per : ℕ) (xs : List ℤ) (m n : ℕ) (r : num xs 0 ≡ pos m) (c : num xs 1 ≡ pos n) (whole : Whole per xs) where
   inside : (l h : ℤ) → Among (num xs 0) l → Among (num xs 1) h → outside m n l h ≡ false
   inside l h a b =
-      or-from (beyond m l) (beyond n h) (not-beyond m l (subst (λ z. Among z l) r a)) (not-beyond n h (subst (λ z. Among z h) c b))
+      ap not (and-from (isAmong m l) (isAmong n h) (test-among m l (subst (λ z. Among z l) r a)) (test-among n h (subst (λ z. Among z h) c b)))
 
   marked : (l h : ℤ) (b : Bool) → isOne (mark xs l h) ≡ b → published xs (cell n l h) ≡ b
   marked l h b e = subst (λ k. published xs (cell k l h) ≡ b) (ap natAbs c) e
@@ -113,9 +114,9 @@ module _ (per : ℕ) (xs : List ℤ) (m n : ℕ) (r : num xs 0 ≡ pos m) (c : n
   pub whole-reads : ReadsAs per xs (feedMeaning per xs m n)
   whole-reads = record {
     location-outside = λ l h _ never.
-        cond-true (outside m n l h) _ _ (or-left (beyond m l) (beyond n h) (is-beyond m l (λ a. never (subst (λ z. Among z l) (sym r) a))));
+        cond-true (outside m n l h) _ _ (ap not (and-left (isAmong m l) (isAmong n h) (not-among m l (λ a. never (subst (λ z. Among z l) (sym r) a)))));
     hour-outside = λ l h _ never.
-        cond-true (outside m n l h) _ _ (or-right (beyond m l) (beyond n h) (is-beyond n h (λ a. never (subst (λ z. Among z h) (sym c) a))));
+        cond-true (outside m n l h) _ _ (ap not (and-right (isAmong m l) (isAmong n h) (not-among n h (λ a. never (subst (λ z. Among z h) (sym c) a)))));
     unpublished = λ l h _ a b e.
         cond-false (outside m n l h) _ _ (inside l h a b) ∙ cond-false (published xs (cell n l h)) _ _ (marked l h false (ap isOne e));
     published = λ l h _ a b e.

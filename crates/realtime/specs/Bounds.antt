@@ -1,31 +1,35 @@
 -- Why the average of a feed is within a source's bounds: (12 / per) × per is at most 12. Assumes nothing.
 --   feed-averaged   what a feed means is an average within its bounds, or a fault
-use mathlib.Core.Path.{_≡_}
-use mathlib.Core.Bool.{true, false}
+use mathlib.Core.Path.{_≡_, sym}
+use mathlib.Core.Bool.{true, false, _&&_}
 use mathlib.Core.List.{List}
 use Prim.Native.Nat.{ℕ, zero, suc, _+_, _-_, _*_, _≤_, _<_}
 use native.Mathlib.Nat.{mul-left-comm, mul-comm, add-mul, add-assoc}
 use native.Mathlib.Omega.{arith}
 use lib.IntN.{ℤ, pos, negsuc, natAbs, negℤ, _*ℤ_, pos-*ℤ-pos, pos-*ℤ-negsuc}
-use lib.Signed.{ltZ, _≤ℤ_}
+use lib.Signed.{leZ, _≤ℤ_}
 use Rattle.std.proofs.shelf.Bits.{mul-le, mul-add-lt, div-add-mod'}
 use Rattle.std.proofs.shelf.Signed.{ints}
-use Rattle.std.proofs.shelf.Tests.{ltb-false, or-parts, cond-both, true≢false}
+use Rattle.std.proofs.shelf.Tests.{leb-true, and-parts, not-false, cond-both, true≢false}
 use Rattle.std.specs.declared.result.Result.the-variants.{Ok}
+use Rattle.lists.specs.Counted.{isAmong}
 use Rattle.lists.specs.Lists.{Bounded}
 use Rattle.realtime.specs.Sources.{Averaged}
-use Rattle.realtime.specs.Feeds.{beyond, outside, cell, published, price, summed, weight, average, feedMeaning, Priced}
+use Rattle.realtime.specs.Feeds.{outside, cell, published, price, summed, weight, average, feedMeaning, Priced}
 
--- a number that is not beyond so many has an index among them
-pub within-size : (size : ℕ) (n : ℤ) → beyond size n ≡ false → natAbs n - 1 < size
+-- a number that is one of so many has an index among them
+pub within-size : (size : ℕ) (n : ℤ) → isAmong size n ≡ true → natAbs n - 1 < size
 within-size size (pos k) e =
-    let p = or-parts (ltZ (pos k) (pos 1)) (ltZ (pos size) (pos k)) e in
-    omega (arith, ltb-false k 1 (p .0), ltb-false size k (p .1))
-within-size size (negsuc k) e = absurd (true≢false e)
+    let p = and-parts (leZ (pos 1) (pos k)) (leZ (pos k) (pos size)) e in
+    omega (arith, leb-true 1 k (p .0), leb-true k size (p .1))
+within-size size (negsuc k) e = absurd (true≢false (sym e))
+
+pub both-among : (m n : ℕ) (l h : ℤ) → outside m n l h ≡ false → (isAmong m l ≡ true) × (isAmong n h ≡ true)
+both-among m n l h e = and-parts (isAmong m l) (isAmong n h) (not-false (isAmong m l && isAmong n h) e)
 
 pub within-cells : (m n : ℕ) (l h : ℤ) → outside m n l h ≡ false → cell n l h < m * n
 within-cells m n l h e =
-    let p = or-parts (beyond m l) (beyond n h) e in
+    let p = both-among m n l h e in
     omega (arith, mul-add-lt (natAbs l - 1) n (natAbs h - 1) m (within-size m l (p .0)) (within-size n h (p .1)), mul-comm m n)
 
 -- an interval of a cell is among the prices of all cells

@@ -1,9 +1,7 @@
 -- What a feed's list holds and what it means. Assumes nothing.
 --   feedLayout per        locations to 64, hours to 25, a mark a cell, `per` prices a cell
---   beyond size n         n, counted from 1, is not among `size`
 --   outside m n l h       the location or the hour is outside the sizes
 --   cell n l h            the cell of a location and hour, location after location at n hours each
---   IndexAmong size n r   r is the index of n among `size`, or none beyond
 --   CellAmong m n l h r   r is the cell of a location and hour, or none outside
 --   isOne z               z is 1
 --   published xs c        the mark of cell c is 1
@@ -16,13 +14,12 @@
 --   Stands per xs all     every mark and price of so many cells stands in the list
 --   Priced per xs all     every price of so many cells is within its bounds
 use mathlib.Core.Path.{_≡_}
-use mathlib.Core.Bool.{Bool, true, false, cond, _||_}
+use mathlib.Core.Bool.{Bool, true, false, cond, not, _&&_}
 use mathlib.Core.List.{List}
 use Prim.Native.Nat.{ℕ, zero, suc, _+_, _-_, _*_, _/_, _<_}
 use lib.Dec.{eqb}
 use lib.IntN.{ℤ, pos, negsuc, natAbs, _+ℤ_, _*ℤ_}
 use lib.ListN.{length}
-use lib.Signed.{ltZ}
 use Rattle.std.specs.declared.option.Option.{Option}
 use Rattle.std.specs.declared.option.Option.the-variants.{Some, None}
 use Rattle.std.specs.declared.result.Result.{Result}
@@ -32,6 +29,7 @@ use Rattle.market.specs.declared.fault.Cause.the-variants.{Outside, Missing}
 use Rattle.market.specs.declared.fault.SourceFault.{SourceFault}
 use Rattle.market.specs.declared.words.Layer.the-variants.{RealTime}
 use Rattle.lists.specs.declared.layout.Layout.{Layout}
+use Rattle.lists.specs.Counted.{isAmong}
 use Rattle.lists.specs.Lists.{num, Bounded}
 
 abbrev pub feedLayout : ℕ → Layout
@@ -43,18 +41,11 @@ feedLayout per = record {
   second = record { «per_cell» = per; low = negsuc 999999; high = pos 1000000 };
 }
 
-abbrev pub beyond : ℕ → ℤ → Bool
-beyond size n = ltZ n (pos 1) || ltZ (pos size) n
-
 abbrev pub outside : ℕ → ℕ → ℤ → ℤ → Bool
-outside m n l h = beyond m l || beyond n h
+outside m n l h = not (isAmong m l && isAmong n h)
 
 abbrev pub cell : ℕ → ℤ → ℤ → ℕ
 cell n l h = (natAbs l - 1) * n + (natAbs h - 1)
-
-abbrev pub IndexAmong : ℕ → ℤ → Option ℕ → Type 0
-IndexAmong size n None = beyond size n ≡ true
-IndexAmong size n (Some i) = (beyond size n ≡ false) × (i ≡ natAbs n - 1) × (i < size)
 
 abbrev pub CellAmong : ℕ → ℕ → ℤ → ℤ → Option ℕ → Type 0
 CellAmong m n l h None = outside m n l h ≡ true

@@ -1,6 +1,5 @@
 -- What a feed over a list is, said by the list alone. Assumes nothing.
 --   Whole per xs            the list passes the check of a feed
---   FeedChecked per xs r    whether it passes, or refusal 1 of the real-time layer and its place
 --   Opened per xs m n       m and n are the sizes of a list that passes, and 0 of one that does not
 --   Among size n            n is one of 1 to `size`
 --   place xs l h            the cell of a location and hour, by the sizes in front
@@ -14,21 +13,14 @@ use lib.IntN.{ℤ, pos, natAbs, _*ℤ_}
 use lib.Signed.{_≤ℤ_}
 use Rattle.std.specs.declared.result.Result.{Result}
 use Rattle.std.specs.declared.result.Result.the-variants.{Ok, Err}
-use Rattle.market.specs.declared.fault.Fault.{Fault}
-use Rattle.market.specs.declared.fault.Fault.the-variants.{BadArgument}
 use Rattle.market.specs.declared.fault.Cause.the-variants.{Outside, Missing}
 use Rattle.market.specs.declared.fault.SourceFault.{SourceFault}
-use Rattle.market.specs.declared.words.Layer.the-variants.{RealTime}
 use Rattle.lists.specs.declared.layout.Sizes.{Sizes}
-use Rattle.lists.specs.Lists.{num, cells, Passed, Refused}
+use Rattle.lists.specs.Lists.{num, cells, Passed}
 use Rattle.realtime.specs.Feeds.{feedLayout, cell, summed, faulty}
 
 abbrev pub Whole : ℕ → List ℤ → Type 0
 Whole per xs = (s : Sizes) × Passed (feedLayout per) xs s
-
-abbrev pub FeedChecked : ℕ → List ℤ → Result (Unit {0}) Fault → Type 0
-FeedChecked per xs (Ok x) = Whole per xs
-FeedChecked per xs (Err f) = (p : ℕ) × Refused (feedLayout per) xs p × (f ≡ BadArgument RealTime (pos p))
 
 pub record Opened (per : ℕ) (xs : List ℤ) (m n : ℕ) : Type 0 where
   pub of-whole : Whole per xs → (pos m ≡ num xs 0) × (pos n ≡ num xs 1)

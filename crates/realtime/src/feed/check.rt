@@ -2,7 +2,6 @@
 ghost use mathlib.Core.Path.{_≡_};
 ghost use Rattle.lists.specs.Lists.{Checked};
 ghost use Rattle.realtime.specs.Feeds.{feedLayout};
-ghost use Rattle.realtime.specs.Laws.{FeedChecked};
 use super::Feed;
 use super::PUBLISHED;
 use lists::check::check;
@@ -36,21 +35,11 @@ fn layout<const PER: u8>() -> Layout
     }
 }
 
-/// The sizes of a list that passes, or refusal 1 of the real-time layer.
-pub(super) fn sizes<const PER: u8>(list: &[i32]) -> Result<Sizes, Fault>
-    ensures { λ r. ⌜ Checked (feedLayout PER) (now (list .entry)) r ⌝ }
-{
-    check(list, &layout::<PER>())
-}
-
 impl<const PER: u8> Feed<'_, PER> {
-    /// Checks the list of a feed: refusal 1 of the real-time layer, with the length or the index of what is wrong.
-    pub fn check(list: &[i32]) -> Result<(), Fault>
-        ensures { λ r. ⌜ FeedChecked PER (now (list .entry)) r ⌝ }
+    /// Checks the list of a feed: how many locations and hours it has, or refusal 1 of the real-time layer with the place.
+    pub fn check(list: &[i32]) -> Result<Sizes, Fault>
+        ensures { λ r. ⌜ Checked (feedLayout PER) (now (list .entry)) r ⌝ }
     {
-        match sizes::<PER>(list) {
-            Ok(_) => Ok(()),
-            Err(fault) => Err(fault),
-        }
+        check(list, &layout::<PER>())
     }
 }

@@ -3,7 +3,6 @@ ghost use mathlib.Core.Path.{_≡_};
 ghost use Rattle.realtime.specs.Feeds.{feedMeaning};
 ghost use Rattle.realtime.specs.Laws.{Opened, ReadsAs};
 use super::Feed;
-use super::check::sizes;
 
 impl<'a, const PER: u8> Feed<'a, PER> {
     /// The feed over a list; over one that does not pass its check every question is outside the sizes.
@@ -12,7 +11,7 @@ impl<'a, const PER: u8> Feed<'a, PER> {
         ensures takes_the_sizes { λ r. ⌜ Opened PER (now (list .entry)) (r .locations) (r .hours) ⌝ }
         ensures reads_the_list { λ r. ⌜ ReadsAs PER (now (list .entry)) (feedMeaning PER (now (r .list)) (r .locations) (r .hours)) ⌝ }
     {
-        let Ok(sizes) = sizes::<PER>(list) else {
+        let Ok(sizes) = Feed::<PER>::check(list) else {
             return Feed {
                 list,
                 locations: 0,

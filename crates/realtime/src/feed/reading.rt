@@ -3,27 +3,18 @@ ghost use mathlib.Core.Path.{_≡_};
 ghost use Prim.Native.Nat.{_+_, _*_, _^_, _<_};
 ghost use lib.ListN.{length};
 ghost use Rattle.realtime.specs.Bounds.{feed-averaged};
-ghost use Rattle.realtime.specs.Feeds.{feedMeaning, published, IndexAmong, CellAmong};
+ghost use Rattle.realtime.specs.Feeds.{feedMeaning, published, CellAmong};
 use super::Feed;
 use super::PUBLISHED;
 use super::prices::average_at;
 use super::prices::cells_of;
 use crate::source::Source;
+use lists::counted::index_from_one;
 use market::bounds::Hour;
 use market::bounds::Number;
 use market::bounds::Rate;
 use market::fault::Cause;
 use market::fault::SourceFault;
-
-/// The index of a number counted from 1 among so many.
-fn index_among(n: i64, size: u16) -> Option<usize>
-    ensures { λ r. ⌜ IndexAmong size n r ⌝ }
-{
-    if n < 1 || n > size as i64 {
-        return None;
-    }
-    Some((n - 1) as usize)
-}
 
 /// The cell in a row and a column, row after row.
 fn cell_at(row: usize, column: usize, columns: u16) -> usize
@@ -37,8 +28,8 @@ fn cell_at(row: usize, column: usize, columns: u16) -> usize
 fn cell_among(locations: u8, hours: u16, location: Number, hour: Hour) -> Option<usize>
     ensures { λ r. ⌜ CellAmong locations hours location hour r ⌝ }
 {
-    let row = index_among(location, locations as u16)?;
-    let column = index_among(hour, hours)?;
+    let row = index_from_one(location, locations as usize)?;
+    let column = index_from_one(hour, hours as usize)?;
     Some(cell_at(row, column, hours))
 }
 
