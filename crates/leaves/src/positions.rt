@@ -1,6 +1,8 @@
 // How much of a location's limit an entity may stand with.
 ghost use mathlib.Core.Path.{_≡_};
-ghost use Rattle.rules.specs.Position.{percentOf};
+ghost use lib.IntN.{_+ℤ_};
+ghost use Rattle.rules.specs.Position.{percentOf, isWithin};
+use market::bounds::Quantity;
 use market::words::Class;
 
 const FIRST_STEP: i64 = 8; // the last month of the least percentages
@@ -34,6 +36,24 @@ pub fn percent_of(class: Class, month: i64) -> Option<i64>
             } else {
                 None
             }
+        }
+    }
+}
+
+/// Whether a position with one more bid of this highest point is within the limit: both sides add, nothing is netted.
+pub fn is_within(
+    percentage: Option<i64>,
+    limit: Quantity,
+    position: Quantity,
+    highest: Quantity,
+) -> bool
+    ensures { λ r. ⌜ r ≡ isWithin percentage limit (position +ℤ highest) ⌝ }
+{
+    match percentage {
+        None => true,
+        Some(percent) => {
+            let stands = (position as i128 + highest as i128) * 100;
+            stands <= percent as i128 * limit as i128
         }
     }
 }
