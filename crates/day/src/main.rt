@@ -1,4 +1,6 @@
 // The day: reads prices from files and prints the reference prices and the real-time averages that they give.
+#![tactic(auto)]
+
 mod averages;
 mod lines;
 mod reference_prices;

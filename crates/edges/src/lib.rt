@@ -1,4 +1,6 @@
 // Tests at the edges of the rules, with expected values worked out by hand.
+#![tactic(auto)]
+
 #[cfg(test)]
 mod numbers;
 #[cfg(test)]

@@ -1,4 +1,6 @@
 // Laws of the rules: the contract of each function is one.
+#![tactic(auto)]
+
 pub mod awarding;
 pub mod booking;
 pub mod money;

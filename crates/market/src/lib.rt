@@ -1,4 +1,6 @@
 // The words of the market: letters, the day, segments of a curve, bounds, faults and refusals.
+#![tactic(auto)]
+
 pub mod bounds;
 pub mod day;
 pub mod fault;

@@ -1,4 +1,6 @@
 // Numbers in a text, parted by white space.
+#![tactic(auto)]
+
 ghost use Rattle.numerals.specs.Numbers.{NumbersRead};
 
 use std::alloc::Global;

@@ -1,4 +1,6 @@
 // One pick for every order: the element of a list that has a given rank.
+#![tactic(auto)]
+
 pub mod order;
 pub mod pick;
 pub mod spread;

@@ -1,4 +1,6 @@
 // Reference prices: what a policy is, and the policies that come with the book.
+#![tactic(auto)]
+
 pub mod figures;
 pub mod history;
 pub mod percentile;
