@@ -7,7 +7,7 @@ use crate::order::Order;
 
 /// How many elements of the list go before x.
 fn count_before<T: Order>(items: &[T], x: &T) -> usize
-    ensures { result ≡ ahead before x.now items.now }
+    ensures { result ≡ ahead T.before x.now items.now }
 {
     let mut n: usize = 0;
     for y in items {
@@ -20,7 +20,7 @@ fn count_before<T: Order>(items: &[T], x: &T) -> usize
 
 /// Whether x lies strictly between the two, where these are given.
 fn lies_between<T: Order + Copy>(low: Option<T>, high: Option<T>, x: &T) -> bool
-    ensures { result ≡ between before low high x.now }
+    ensures { result ≡ between T.before low high x.now }
 {
     let over = match low {
         None => true,
@@ -35,7 +35,7 @@ fn lies_between<T: Order + Copy>(low: Option<T>, high: Option<T>, x: &T) -> bool
 
 /// How many elements lie strictly between the two.
 fn count_between<T: Order + Copy>(items: &[T], low: Option<T>, high: Option<T>) -> usize
-    ensures { result ≡ count_by (between before low high) items.now }
+    ensures { result ≡ count_by (between T.before low high) items.now }
 {
     let mut n: usize = 0;
     for x in items {
@@ -48,7 +48,7 @@ fn count_between<T: Order + Copy>(items: &[T], low: Option<T>, high: Option<T>) 
 
 /// The place of the middle one, as they stand, of the elements strictly between the two.
 fn middle<T: Order + Copy>(items: &[T], low: Option<T>, high: Option<T>) -> Option<usize>
-    ensures { Between before low high items.now result }
+    ensures { Between T.before low high items.now result }
 {
     let mut skip = count_between(items, low, high) / 2;
     for (i, x) in items.iter().enumerate() {
@@ -64,7 +64,7 @@ fn middle<T: Order + Copy>(items: &[T], low: Option<T>, high: Option<T>) -> Opti
 
 /// The element of the list that has exactly `rank` - 1 elements before it, or none where none has.
 pub fn pick<T: Order + Copy>(items: &[T], rank: usize) -> Option<T>
-    ensures { Picked before items.now rank result }
+    ensures { Picked T.before items.now rank result }
 {
     if rank == 0 {
         return None;

@@ -9,8 +9,8 @@ use Rattle.numerals.proofs.read_numbers.Goals as goal
 
 pub loop-word-init : goal.loop-word-init
 loop-word-init c =
-    let whole = ap split_whitespace_rest c.into-iter-word-iterator.ensures.into-iter-gives ∙ c.split-whitespace-word-items.ensures.rest in
-    subst (λ (xs : List ℤ). Spelt c.args.text.now xs (split_whitespace_rest c.into-iter-word-iterator.result)) (sym c.new-numbers.ensures.items) (sym whole)
+    let whole = ap split_whitespace_rest c.into_iter-word-iterator.ensures.into_iter_gives ∙ c.split_whitespace-word-items.ensures.rest in
+    subst (λ (xs : List ℤ). Spelt c.args.text.now xs (split_whitespace_rest c.into_iter-word-iterator.result)) (sym c.new-numbers.ensures.items) (sym whole)
 
 pub loop-word-preserved : goal.loop-word-preserved
 loop-word-preserved c =

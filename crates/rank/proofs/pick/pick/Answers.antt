@@ -11,7 +11,7 @@ returns-then-rank-eq0 g c = none_of_zero g.T.Order.before c.args.items.now c.arg
 pub returns-then-n-rank : goal.returns-then-n-rank
 returns-then-n-rank g c = (
   (c.in-Some.i, c.in-Some.ensures.0, λ d. sym (get_or_read c.args.items.now c.in-Some.i c.index-items-i.result c.in-Some.ensures.0 c.index-items-i.is d)),
-  omega (arith, c.count-before-n.ensures, c.if-n-rank.true, c.loop-i.invariant.0),
+  omega (arith, c.count_before-n.ensures, c.if-n-rank.true, c.loop-i.invariant.0),
 )
 
 pub loop-i-smaller-then-n-rank-2 : goal.loop-i-smaller-then-n-rank-2
@@ -28,4 +28,4 @@ loop-i-smaller g c =
 
 pub returns : goal.returns
 returns g c =
-    none_between g.T.Order.before g.met.T.Order.strict g.met.T.Order.transitive g.met.T.Order.decides c.args.items.now c.args.rank c.loop-i.low c.loop-i.high c.args.items.now c.loop-i.invariant.1 c.loop-i.invariant.2 c.in-default.ensures
+    none_between g.T.Order.before g.met.T.Order.strict g.met.T.Order.transitive g.met.T.Order.decides c.args.items.now c.args.rank c.loop-i.low c.loop-i.high c.args.items.now c.loop-i.invariant.1 c.loop-i.invariant.2 c.in_default.ensures
