@@ -21,6 +21,12 @@ spread_decides x y ne = search rules
 pub spread_tied : (x y : DatedSpread) → lower_spread x y ≡ false → lower_spread y x ≡ false → x.value ≡ y.value
 spread_tied x y a b = grind (arith, ints)
 
+pub standing_strict : (x : Standing) → higher_standing x x ≡ false
+standing_strict x = grind (arith, ints)
+
 pub standing_transitive : (x y z : Standing) → higher_standing x y ≡ true → higher_standing y z ≡ true → higher_standing x z ≡ true
 standing_transitive x y z = λ h k.
     low_trans z.cash y.cash x.cash _ _ _ (λ p q. low_trans z.available y.available x.available _ _ _ (λ p q. lt_trans x.number y.number z.number q p) p q) k h
+
+pub standing_decides : (x y : Standing) → (x ≢ y) → higher_standing x y ≡ not (higher_standing y x)
+standing_decides x y ne = search rules

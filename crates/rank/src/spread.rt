@@ -1,7 +1,6 @@
 // Dated spreads, in the order of reference prices.
 ghost use Rattle.rank.specs.Orders.{lower_spread};
-ghost use Rattle.rank.specs.Laws.{spread_transitive};
-ghost use Rattle.std.proofs.Common.{rules};
+ghost use Rattle.rank.specs.Laws.{spread_strict, spread_transitive, spread_decides};
 
 use crate::order::Order;
 
@@ -15,11 +14,11 @@ pub struct DatedSpread {
 impl Order for DatedSpread {
     ghost before = { lower_spread };
 
-    ghost strict = { Prim.search rules };
+    ghost strict = { λ x. spread_strict x };
 
     ghost transitive = { λ x y z. spread_transitive x y z };
 
-    ghost decides = { Prim.search rules };
+    ghost decides = { λ x y. spread_decides x y };
 
     fn precedes(&self, other: &DatedSpread) -> bool {
         if self.value < other.value {

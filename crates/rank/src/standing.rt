@@ -1,7 +1,6 @@
 // Standings of accounts, in the order of the ranking.
 ghost use Rattle.rank.specs.Orders.{higher_standing};
-ghost use Rattle.rank.specs.Laws.{standing_transitive};
-ghost use Rattle.std.proofs.Common.{rules};
+ghost use Rattle.rank.specs.Laws.{standing_strict, standing_transitive, standing_decides};
 
 use crate::order::Order;
 
@@ -16,11 +15,11 @@ pub struct Standing {
 impl Order for Standing {
     ghost before = { higher_standing };
 
-    ghost strict = { Prim.search rules };
+    ghost strict = { λ x. standing_strict x };
 
     ghost transitive = { λ x y z. standing_transitive x y z };
 
-    ghost decides = { Prim.search rules };
+    ghost decides = { λ x y. standing_decides x y };
 
     fn precedes(&self, other: &Standing) -> bool {
         if other.cash < self.cash {

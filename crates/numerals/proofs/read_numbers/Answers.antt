@@ -22,10 +22,10 @@ loop-word-preserved c =
     subst (λ (xs : List ℤ). Spelt c.args.text.now xs (split_whitespace_rest c.next.new.self)) (sym items)
     (spelt_more c.args.text.now (vec_items c.loop-word.numbers) _ c.in-Some.word.now _ c.in-Ok.number c.loop-word.invariant first (read.0.0, f, sym read.1))
 
-pub returns-in-default : goal.returns-in-default
-returns-in-default c =
+pub returns-in_default : goal.returns-in_default
+returns-in_default c =
     let first = next_word _ c.in-Some.word.now _ c.in-Some.ensures.steps in
-    let none = c.in-default.ensures.value.0 in (
+    let none = c.in_default.ensures.value.0 in (
       vec_items c.loop-word.numbers,
       sym (c.len.ensures ∙ c.loop-word.numbers.ok.0),
       (

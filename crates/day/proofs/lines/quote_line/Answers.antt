@@ -6,8 +6,8 @@ use Rattle.day.proofs.lines.quote_line.Goals as goal
 
 pub returns-in-Err : goal.returns-in-Err
 returns-in-Err c =
-    subst (λ (t : List ℕ). IfOk c.no-price-line.result (λ s. string_bytes s ≡ t))
-    (ap (λ (l : ℤ). no_price_text l c.side-name-in-Err.result.now c.in-Err.fault) (to_z-of_z w64 c.args.location c.ranges.location)
-    ∙ ap (λ (n : List ℕ). no_price_text c.args.location n c.in-Err.fault) c.side-name-in-Err.ensures
+    subst (λ (t : List ℕ). IfOk c.no_price_line.result (λ s. string_bytes s ≡ t))
+    (ap (λ (l : ℤ). no_price_text l c.side_name-in-Err.result.now c.in-Err.fault) (to_z-of_z w64 c.args.location c.ranges.location)
+    ∙ ap (λ (n : List ℕ). no_price_text c.args.location n c.in-Err.fault) c.side_name-in-Err.ensures
     ∙ sym (ap (quote_text c.args.location c.args.side) c.in-Err.is))
-    c.no-price-line.ensures
+    c.no_price_line.ensures

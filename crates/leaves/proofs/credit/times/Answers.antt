@@ -6,11 +6,11 @@ use Rattle.leaves.proofs.credit.times.Goals as goal
 
 within : (c : goal.Start) → SFits w64 (c.args.quantity *ℤ c.args.rate)
 within c =
-    let p = product_within c.args.quantity c.args.rate c.requires.of-a-hold.0 c.requires.of-a-hold.1 c.requires.of-a-spread.0 c.requires.of-a-spread.1 in
+    let p = product_within c.args.quantity c.args.rate c.requires.of_a_hold.0 c.requires.of_a_hold.1 c.requires.of_a_spread.0 c.requires.of_a_spread.1 in
     omega (arith, ints)
 
-pub overflow-mul-result : goal.overflow-mul-result
-overflow-mul-result c =
+pub overflow_mul-result : goal.overflow_mul-result
+overflow_mul-result c =
     let f : SFits w64 c.args.quantity = c.ranges.quantity in
     let g : SFits w64 c.args.rate = c.ranges.rate in
     simp to_z-of_z (within c)
@@ -20,5 +20,5 @@ returns c =
     let f : SFits w64 c.args.quantity = c.ranges.quantity in
     let g : SFits w64 c.args.rate = c.ranges.rate in
     let k = within c in
-    let p = product_within c.args.quantity c.args.rate c.requires.of-a-hold.0 c.requires.of-a-hold.1 c.requires.of-a-spread.0 c.requires.of-a-spread.1 in
+    let p = product_within c.args.quantity c.args.rate c.requires.of_a_hold.0 c.requires.of_a_hold.1 c.requires.of_a_spread.0 c.requires.of_a_spread.1 in
     record { value = simp to_z-of_z; bounds = simp to_z-of_z (p.0, p.1) }

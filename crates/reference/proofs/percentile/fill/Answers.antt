@@ -8,12 +8,12 @@ use Rattle.reference.proofs.percentile.fill.Goals as goal
 pub loop-i-preserved : goal.loop-i-preserved
 loop-i-preserved c =
     let t : SFits w32 (get_or c.args.averages.now c.loop-i.i (pos 0)) = search rules in
-    let d : SFits w32 (get_or c.args.day-ahead.now c.loop-i.i (pos 0)) = search rules in
-    let r : SFits w64 c.spread-of.result = search rules in
-    spreads_more c.args.side c.args.averages.now c.args.day-ahead.now c.loop-i.i _ _
-    (to_z-of_z w64 c.spread-of.result r ∙ (simp to_z-of_z at c.spread-of.ensures)) (omega (arith, ints)) c.loop-i.spreads (omega arith) c.loop-i.invariant
+    let d : SFits w32 (get_or c.args.day_ahead.now c.loop-i.i (pos 0)) = search rules in
+    let r : SFits w64 c.spread_of.result = search rules in
+    spreads_more c.args.side c.args.averages.now c.args.day_ahead.now c.loop-i.i _ _
+    (to_z-of_z w64 c.spread_of.result r ∙ (simp to_z-of_z at c.spread_of.ensures)) (omega (arith, ints)) c.loop-i.spreads (omega arith) c.loop-i.invariant
 
 pub returns : goal.returns
 returns c =
     let e : c.loop-i.i ≡ length c.args.averages.now = omega arith in
-    subst (λ n. take n c.loop-i.spreads ≡ spreads_to c.args.side c.args.averages.now c.args.day-ahead.now n) e c.loop-i.invariant
+    subst (λ n. take n c.loop-i.spreads ≡ spreads_to c.args.side c.args.averages.now c.args.day_ahead.now n) e c.loop-i.invariant

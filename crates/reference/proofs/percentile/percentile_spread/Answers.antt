@@ -17,15 +17,15 @@ pub returns : goal.returns
 returns c =
     let f : SFits w64 c.in-Some.spread.value = search rules in
     let n = length c.args.averages.now in
-    let p = theirs c.fill.new.spreads _ n _ _ (Some c.in-Some.spread) c.fill.ensures c.percentile-rank-rank.ensures.value c.in-Some.ensures in
+    let p = theirs c.fill.new.spreads _ n _ _ (Some c.in-Some.spread) c.fill.ensures c.percentile_rank-rank.ensures.value c.in-Some.ensures in
     let q = theirs c.fill.new.spreads _ n _ _ (Some c.in-Some.spread) c.fill.ensures refl c.in-Some.ensures in
     let v = to_z-of_z w64 c.in-Some.spread.value f in
     record {
-      of-its-rank = record { rank = c.percentile-rank-rank.result; percentile = c.percentile-rank-rank.ensures.least; spread = c.in-Some.spread; picked = q; priced = sym v };
-      value = v ∙ one_value c.args.side c.args.averages.now c.args.day-ahead.now n c.requires.some c.in-Some.spread p;
+      of_its_rank = record { rank = c.percentile_rank-rank.result; percentile = c.percentile_rank-rank.ensures.least; spread = c.in-Some.spread; picked = q; priced = sym v };
+      value = v ∙ one_value c.args.side c.args.averages.now c.args.day_ahead.now n c.requires.some c.in-Some.spread p;
     }
 
 pub unreachable-requires : goal.unreachable-requires
 unreachable-requires c =
-    never_none c.args.side c.args.averages.now c.args.day-ahead.now (length c.args.averages.now) c.requires.some
-    (theirs c.fill.new.spreads _ (length c.args.averages.now) _ _ None c.fill.ensures c.percentile-rank-rank.ensures.value c.in-None.ensures)
+    never_none c.args.side c.args.averages.now c.args.day_ahead.now (length c.args.averages.now) c.requires.some
+    (theirs c.fill.new.spreads _ (length c.args.averages.now) _ _ None c.fill.ensures c.percentile_rank-rank.ensures.value c.in-None.ensures)

@@ -8,21 +8,21 @@ invariant-of-result-2 g c =
     let passed = c.in-Ok.ensures in
     (passed_stands g.row.PER c.args.list.now c.in-Ok.sizes passed, (passed_priced g.row.PER c.args.list.now c.in-Ok.sizes passed, tt))
 
-pub returns-in-default : goal.returns-in-default
-returns-in-default g c =
-    let refused = c.in-default.ensures in
+pub returns-in_default : goal.returns-in_default
+returns-in_default g c =
+    let refused = c.in_default.ensures in
     let never = refused_not_whole g.row.PER c.args.list.now refused.0 refused.1 in
     record {
-      keeps-the-list = refl;
-      takes-the-sizes = refused_opened g.row.PER c.args.list.now never;
-      reads-the-list = refused_reads g.row.PER c.args.list.now never;
+      keeps_the_list = refl;
+      takes_the_sizes = refused_opened g.row.PER c.args.list.now never;
+      reads_the_list = refused_reads g.row.PER c.args.list.now never;
     }
 
 pub returns : goal.returns
 returns g c =
     let passed = c.in-Ok.ensures in
     record {
-      keeps-the-list = refl;
-      takes-the-sizes = passed_opened g.row.PER c.args.list.now c.in-Ok.sizes passed;
-      reads-the-list = whole_reads g.row.PER c.args.list.now c.in-Ok.sizes.rows c.in-Ok.sizes.columns (sym passed.rows) (sym passed.columns) (c.in-Ok.sizes, passed);
+      keeps_the_list = refl;
+      takes_the_sizes = passed_opened g.row.PER c.args.list.now c.in-Ok.sizes passed;
+      reads_the_list = whole_reads g.row.PER c.args.list.now c.in-Ok.sizes.rows c.in-Ok.sizes.columns (sym passed.rows) (sym passed.columns) (c.in-Ok.sizes, passed);
     }

@@ -4,17 +4,17 @@ use Rattle.std.proofs.lemmas.Int.{to_z-of_z}
 use Rattle.realtime.proofs.Sums.{weighed_fits}
 use Rattle.realtime.proofs.feed.prices.in_twelfths.Goals as goal
 
-fits : (c : goal.After-weight-of) → SFits w64 (c.weight-of.result *ℤ c.args.sum)
+fits : (c : goal.After-weight_of) → SFits w64 (c.weight_of.result *ℤ c.args.sum)
 fits c =
-    subst (λ (z : ℤ). SFits w64 (z *ℤ c.args.sum)) (sym c.weight-of.ensures) (weighed_fits c.args.per c.args.sum c.requires.low c.requires.high)
+    subst (λ (z : ℤ). SFits w64 (z *ℤ c.args.sum)) (sym c.weight_of.ensures) (weighed_fits c.args.per c.args.sum c.requires.low c.requires.high)
 
-pub overflow-mul-result : goal.overflow-mul-result
-overflow-mul-result c =
-    let f : SFits w64 c.weight-of.result = search rules in
-    simp (to_z-of_z w64 c.weight-of.result f, to_z-of_z w64 c.args.sum c.ranges.sum) (fits c)
+pub overflow_mul-result : goal.overflow_mul-result
+overflow_mul-result c =
+    let f : SFits w64 c.weight_of.result = search rules in
+    simp (to_z-of_z w64 c.weight_of.result f, to_z-of_z w64 c.args.sum c.ranges.sum) (fits c)
 
 pub returns : goal.returns
 returns c =
-    let f : SFits w64 c.weight-of.result = search rules in
-    simp (to_z-of_z w64 c.weight-of.result f, to_z-of_z w64 c.args.sum c.ranges.sum)
-    (to_z-of_z w64 (c.weight-of.result *ℤ c.args.sum) (fits c) ∙ ap (λ (z : ℤ). z *ℤ c.args.sum) c.weight-of.ensures)
+    let f : SFits w64 c.weight_of.result = search rules in
+    simp (to_z-of_z w64 c.weight_of.result f, to_z-of_z w64 c.args.sum c.ranges.sum)
+    (to_z-of_z w64 (c.weight_of.result *ℤ c.args.sum) (fits c) ∙ ap (λ (z : ℤ). z *ℤ c.args.sum) c.weight_of.ensures)

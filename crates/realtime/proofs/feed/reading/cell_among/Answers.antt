@@ -7,7 +7,7 @@ use Rattle.realtime.proofs.feed.reading.cell_among.Goals as goal
 
 pub returns : goal.returns
 returns c =
-    subst (λ (k : ℕ). CellAmong c.args.locations c.args.hours c.args.location c.args.hour (Some k)) (sym c.cell-at.ensures)
-    (cell_among c.args.locations c.args.hours c.in-ok-row.row c.in-ok-column.column c.args.location c.args.hour
-    (simp (to_z-of_z w64 c.args.location c.ranges.location) at c.in-ok-row.ensures)
-    (simp (to_z-of_z w64 c.args.hour c.ranges.hour) at c.in-ok-column.ensures))
+    subst (λ (k : ℕ). CellAmong c.args.locations c.args.hours c.args.location c.args.hour (Some k)) (sym c.cell_at.ensures)
+    (cell_among c.args.locations c.args.hours c.in_ok-row.row c.in_ok-column.column c.args.location c.args.hour
+    (simp (to_z-of_z w64 c.args.location c.ranges.location) at c.in_ok-row.ensures)
+    (simp (to_z-of_z w64 c.args.hour c.ranges.hour) at c.in_ok-column.ensures))

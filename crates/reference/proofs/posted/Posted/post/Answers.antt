@@ -11,7 +11,7 @@ priced-set (x ∷ xs) (suc i) z h all zero = all 0
 priced-set (x ∷ xs) (suc i) z h all (suc k) = priced-set xs i z h (λ j. all (suc j)) k
 
 pub invariant-of-self : goal.invariant-of-self
-invariant-of-self c = (priced-set c.args.self.now.supply c.in-Some.i _ c.if-not-is-reference.ensures c.args.self.now.supply_priced, (c.args.self.now.demand_priced, tt))
+invariant-of-self c = (priced-set c.args.self.now.supply c.in-Some.i _ c.if-not-is_reference.ensures c.args.self.now.supply_priced, (c.args.self.now.demand_priced, tt))
 
 pub invariant-of-self-in-Demand : goal.invariant-of-self-in-Demand
-invariant-of-self-in-Demand c = (c.args.self.now.supply_priced, (priced-set c.args.self.now.demand c.in-Some.i _ c.if-not-is-reference.ensures c.args.self.now.demand_priced, tt))
+invariant-of-self-in-Demand c = (c.args.self.now.supply_priced, (priced-set c.args.self.now.demand c.in-Some.i _ c.if-not-is_reference.ensures c.args.self.now.demand_priced, tt))

@@ -4,27 +4,27 @@ use Rattle.std.proofs.lemmas.Int.{to_z-of_z}
 use Rattle.realtime.proofs.Readings.{stands_as_counted, published_meaning}
 use Rattle.realtime.proofs.feed.reading.FeedSource.average.Goals as goal
 
-pub is-published-requires : goal.is-published-requires
-is-published-requires g c =
+pub is_published-requires : goal.is_published-requires
+is_published-requires g c =
     let feed = c.args.self.now in
     omega (arith, feed.stands c.in-Some.cell (omega (arith, c.in-Some.ensures.2)))
 
-pub average-at-requires : goal.average-at-requires
-average-at-requires g c =
+pub average_at-requires : goal.average_at-requires
+average_at-requires g c =
     let feed = c.args.self.now in
     record {
-      few = c.cells-of-cells.ensures.bound;
-      inside = omega (arith, c.in-Some.ensures.2, c.cells-of-cells.ensures.value);
-      stands = stands_as_counted g.row.PER feed.list.now (feed.locations * feed.hours) c.cells-of-cells.result c.cells-of-cells.ensures.value feed.stands;
+      few = c.cells_of-cells.ensures.bound;
+      inside = omega (arith, c.in-Some.ensures.2, c.cells_of-cells.ensures.value);
+      stands = stands_as_counted g.row.PER feed.list.now (feed.locations * feed.hours) c.cells_of-cells.result c.cells_of-cells.ensures.value feed.stands;
     }
 
 pub returns : goal.returns
 returns g c =
     let feed = c.args.self.now in
-    let f : SFits w64 c.average-at.result = search rules in
+    let f : SFits w64 c.average_at.result = search rules in
     let among = simp (to_z-of_z w64 c.args.location c.ranges.location, to_z-of_z w64 c.args.hour c.ranges.hour) at c.in-Some.ensures in
     record {
-      answers-by-meaning = simp (to_z-of_z w64 c.average-at.result f)
-          (published_meaning g.row.PER feed.list.now feed.locations feed.hours c.args.location c.args.hour c.cells-of-cells.result c.in-Some.cell c.average-at.result among (sym c.is-published.ensures ∙ c.if-not-is-published.false) c.cells-of-cells.ensures.value c.average-at.ensures);
-      keeps-the-meaning = refl;
+      answers_by_meaning = simp (to_z-of_z w64 c.average_at.result f)
+          (published_meaning g.row.PER feed.list.now feed.locations feed.hours c.args.location c.args.hour c.cells_of-cells.result c.in-Some.cell c.average_at.result among (sym c.is_published.ensures ∙ c.if-not-is_published.false) c.cells_of-cells.ensures.value c.average_at.ensures);
+      keeps_the_meaning = refl;
     }

@@ -6,8 +6,8 @@ use Rattle.reference.specs.Prices.{fault}
 use Rattle.reference.proofs.Read.{row_within, no_hours, missing_without_hours}
 use Rattle.reference.proofs.history.prices.HistoryPolicy.quote.Goals as goal
 
-pub of-location-averages-requires : goal.of-location-averages-requires
-of-location-averages-requires c =
+pub of_location-averages-requires : goal.of_location-averages-requires
+of_location-averages-requires c =
     let h = c.args.self.now in
     let i = c.in-Some.ensures.2 in
     record {
@@ -16,8 +16,8 @@ of-location-averages-requires c =
       within = omega (arith, row_within c.in-Some.index h.locations h.hours i, h.averages_whole);
     }
 
-pub of-location-day-ahead-requires : goal.of-location-day-ahead-requires
-of-location-day-ahead-requires c =
+pub of_location-day_ahead-requires : goal.of_location-day_ahead-requires
+of_location-day_ahead-requires c =
     let h = c.args.self.now in
     let i = c.in-Some.ensures.2 in
     record {
@@ -31,10 +31,10 @@ returns-in-None c =
     let h = c.args.self.now in
     let l = c.args.location in
     let among = simp (to_z-of_z w64 l c.ranges.location) at c.in-Some.ensures.0 in
-    let z = no_hours c.in-Some.index h.locations h.hours h.averages.now h.day_ahead.now _ _ c.in-Some.ensures.2 h.few_hours h.averages_whole h.day_ahead_whole c.of-location-averages.ensures c.of-location-day-ahead.ensures c.in-None.ensures in
+    let z = no_hours c.in-Some.index h.locations h.hours h.averages.now h.day_ahead.now _ _ c.in-Some.ensures.2 h.few_hours h.averages_whole h.day_ahead_whole c.of_location-averages.ensures c.of_location-day_ahead.ensures c.in-None.ensures in
     record {
-      answers-by-meaning =
+      answers_by_meaning =
           ap (λ (k : ℤ). Err (fault Missing k)) (to_z-of_z w64 l c.ranges.location)
           ∙ sym (missing_without_hours h.locations h.hours h.averages.now h.day_ahead.now l c.args.side among z);
-      keeps-the-meaning = refl;
+      keeps_the_meaning = refl;
     }
