@@ -8,8 +8,8 @@ use market::fault::{Fault, Unaveraged};
 
 /// The average, or the source's fault beside the location that was asked for.
 fn ask<S: Source>(source: &mut S, location: Number, hour: Hour) -> Result<Rate, Unaveraged>
-    ensures answers_by_meaning { result ≡ unaveraged location (meaning source.old location hour) }
-    ensures keeps_the_meaning { meaning source.new ≡ meaning source.old }
+    ensures answers_by_meaning { result ≡ unaveraged location (S.meaning source.old location hour) }
+    ensures keeps_the_meaning { S.meaning source.new ≡ S.meaning source.old }
 {
     match source.average(location, hour) {
         Ok(average) => Ok(average),
@@ -26,8 +26,8 @@ pub fn average_or_fault<S: Source>(
     location: Number,
     hour: Hour,
 ) -> Result<Rate, Fault>
-    ensures answers_by_meaning { result ≡ average_or_fault location (meaning source.old location hour) }
-    ensures keeps_the_meaning { meaning source.new ≡ meaning source.old }
+    ensures answers_by_meaning { result ≡ average_or_fault location (S.meaning source.old location hour) }
+    ensures keeps_the_meaning { S.meaning source.new ≡ S.meaning source.old }
 {
     let average = ask(source, location, hour)?;
     Ok(average)

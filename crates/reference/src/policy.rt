@@ -21,8 +21,8 @@ pub trait Policy {
 
 /// What a policy answers; a fault goes with the location that was asked for.
 fn ask<P: Policy>(policy: &mut P, location: Number, side: Side) -> Result<Rate, Unpriced>
-    ensures answers_by_meaning { result ≡ asked location (meaning policy.old location side) }
-    ensures keeps_the_meaning { meaning policy.new ≡ meaning policy.old }
+    ensures answers_by_meaning { result ≡ asked location (P.meaning policy.old location side) }
+    ensures keeps_the_meaning { P.meaning policy.new ≡ P.meaning policy.old }
 {
     match policy.quote(location, side) {
         Ok(price) => Ok(price),
@@ -39,8 +39,8 @@ pub fn price_or_refuse<P: Policy>(
     location: Number,
     side: Side,
 ) -> Result<Rate, Fault>
-    ensures answers_by_meaning { result ≡ price_or_refuse location (meaning policy.old location side) }
-    ensures keeps_the_meaning { meaning policy.new ≡ meaning policy.old }
+    ensures answers_by_meaning { result ≡ price_or_refuse location (P.meaning policy.old location side) }
+    ensures keeps_the_meaning { P.meaning policy.new ≡ P.meaning policy.old }
 {
     let price = ask(policy, location, side)?;
     Ok(price)

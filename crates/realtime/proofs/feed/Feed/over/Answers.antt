@@ -3,10 +3,13 @@ use Rattle.std.proofs.Common.{sym, refl}
 use Rattle.realtime.proofs.Readings.{refused_not_whole, refused_opened, refused_reads, passed_stands, passed_priced, passed_opened, whole_reads}
 use Rattle.realtime.proofs.feed.Feed.over.Goals as goal
 
-pub invariant-of-result-2 : goal.invariant-of-result-2
-invariant-of-result-2 g c =
+pub invariant_of-result-2 : goal.invariant_of-result-2
+invariant_of-result-2 g c =
     let passed = c.in-Ok.ensures in
-    (passed_stands g.row.PER c.args.list.now c.in-Ok.sizes passed, (passed_priced g.row.PER c.args.list.now c.in-Ok.sizes passed, tt))
+    record {
+      stands = passed_stands g.row.PER c.args.list.now c.in-Ok.sizes passed;
+      priced = passed_priced g.row.PER c.args.list.now c.in-Ok.sizes passed;
+    }
 
 pub returns-in_default : goal.returns-in_default
 returns-in_default g c =

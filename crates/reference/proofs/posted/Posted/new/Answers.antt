@@ -12,8 +12,8 @@ empties zero k = refl
 empties (suc n) zero = refl
 empties (suc n) (suc k) = empties n k
 
-pub invariant-of-result : goal.invariant-of-result
-invariant-of-result c = ((λ k. ap fair (empties 64 k)), ((λ k. ap fair (empties 64 k)), tt))
+pub invariant_of-result : goal.invariant_of-result
+invariant_of-result c = record { supply_priced = λ k. ap fair (empties 64 k); demand_priced = λ k. ap fair (empties 64 k) }
 
 pub returns : goal.returns
 returns c l Supply = ap (λ o. cond (in_table l) (price_in l o) (Err (fault Outside l))) (empties 64 (nat_abs l - 1))
