@@ -2,11 +2,11 @@
 #![tactic(auto)]
 
 #[cfg(test)]
+mod averages;
+#[cfg(test)]
 mod numbers;
 #[cfg(test)]
 mod ranks;
-#[cfg(test)]
-mod realtime;
 #[cfg(test)]
 mod references;
 #[cfg(test)]

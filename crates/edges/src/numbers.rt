@@ -17,7 +17,7 @@ fn words_are_numbers_of_32_bits(rt: HostRuntime) -> Result<(), Fail> {
     let Ok(numbers) = read_numbers(heap, " 7\n-2147483648\t2147483647  +1 ") else {
         return Err(Fail::new("refused"));
     };
-    assert!(rt; numbers.as_slice() == &[7, -2147483648, 2147483647, 1]);
+    assert!(rt; numbers.as_slice() == [7, -2147483648, 2147483647, 1].as_slice());
     assert_eq!(rt; bad_word(heap, "2147483648"), Some(0));
     assert_eq!(rt; bad_word(heap, "1 2 x 4"), Some(2));
     assert_eq!(rt; bad_word(heap, "1 -"), Some(1));
