@@ -1,5 +1,5 @@
 -- The last that passes, as a loop over a curve finds it.
-use Rattle.std.proofs.Common.{◌≡◌, ℕ, ◌+◌, ◌<◌, Bool, true, false, cond, List, [], ◌∷◌, ◌++◌, length, get_or, take, ℤ, Some, None, filter, Option, sym, refl, ap, append-nil}
+use Rattle.std.proofs.Common.{◌≡◌, ℕ, ◌+◌, ◌<◌, Bool, true, false, cond, List, [], ◌∷◌, ◌++◌, length, get_or, take, ℤ, Some, filter, Option, sym, refl, ap, append-nil}
 use Rattle.std.proofs.lemmas.List.Elements.{filter_more}
 use Rattle.market.specs.declared.segment.Segment.{Segment}
 use Rattle.rules.specs.Awards.{last_end}

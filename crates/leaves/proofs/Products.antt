@@ -1,5 +1,5 @@
 -- Products of bounded numbers, and how many bits they take. Assumes nothing.
-use Rattle.std.proofs.Common.{ℕ, suc, ◌*◌, ◌≤◌, ℤ, pos, negsuc, ◌*ℤ◌, neg_ℤ, ◌≤ℤ◌, mul-le-mul, arith, w64, SFits}
+use Rattle.std.proofs.Common.{suc, ◌*◌, ◌≤◌, ℤ, pos, negsuc, ◌*ℤ◌, neg_ℤ, ◌≤ℤ◌, mul-le-mul, arith, w64, SFits}
 use mir.Syntax.{w128}
 use Rattle.std.proofs.lemmas.Int.{ints}
 

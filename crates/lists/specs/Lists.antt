@@ -8,7 +8,7 @@
 --   FirstOutside xs from to low high r   r is the first index from `from` and before `to` of a number out of bounds
 --   Passed y xs s                   a whole list, of these sizes
 --   SizesRefused y xs p, Refused y xs p  p is the place at which the sizes, or the list, are refused
-use Rattle.std.specs.Prelude.{◌≡◌, ℕ, ◌+◌, ◌*◌, ◌<◌, ◌≤◌, Bool, cond, ◌⊎◌, List, length, ℤ, pos, ◌≤ℤ◌, Some, None, Ok, Err, Option, Result, ◌==◌, ◌≢◌, nat_lt, slice_index_or, unsigned_abs}
+use Rattle.std.specs.Prelude.{◌≡◌, ℕ, ◌+◌, ◌*◌, ◌<◌, ◌≤◌, cond, ◌⊎◌, List, length, ℤ, pos, ◌≤ℤ◌, Some, None, Ok, Err, Option, Result, ◌==◌, ◌≢◌, nat_lt, slice_index_or, unsigned_abs}
 use Rattle.market.specs.declared.fault.Fault.{Fault}
 use Rattle.market.specs.declared.fault.Fault.TheVariants.{BadArgument}
 use Rattle.lists.specs.declared.layout.Layout.{Layout}

@@ -1,5 +1,5 @@
 -- How the list that a feed lies over is read: a list that passed is as long as its sizes say and holds prices behind its marks. Assumes nothing.
-use Rattle.std.proofs.Common.{◌≡◌, ℕ, ◌+◌, ◌-◌, ◌*◌, ◌<◌, ◌≤◌, Bool, true, false, not, ◌⊎◌, List, length, ℤ, pos, nat_abs, Some, Ok, sym, refl, ap, ◌∙◌, subst, inl, inr, ⊎_elim, mul_comm, add-mul, mul-one, arith}
+use Rattle.std.proofs.Common.{◌≡◌, ℕ, ◌+◌, ◌-◌, ◌*◌, ◌<◌, ◌≤◌, Bool, true, false, not, List, length, ℤ, pos, nat_abs, Some, Ok, sym, refl, ap, ◌∙◌, subst, inl, inr, ⊎_elim, mul_comm, add-mul, mul-one, arith}
 use lib.Signed.{le_z}
 use Rattle.std.proofs.lemmas.Nat.{mul-le, mul-add-lt}
 use Rattle.std.proofs.lemmas.Int.{ints}

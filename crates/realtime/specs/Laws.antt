@@ -6,7 +6,7 @@
 --   mark xs l h             the mark of an hour of a location
 --   interval per xs l h i   the price of its interval i, from 0, at 2 + cells + place × per + i
 --   ReadsAs per xs meaning  a list that passes is read as its numbers stand; of any other all is outside
-use Rattle.std.specs.Prelude.{◌≡◌, ℕ, ◌+◌, ◌*◌, ◌/◌, List, ℤ, pos, ◌*ℤ◌, ◌≤ℤ◌, Ok, Err, Result, unsigned_abs}
+use Rattle.std.specs.Prelude.{◌≡◌, ℕ, ◌+◌, ◌*◌, ◌/◌, List, ℤ, pos, ◌*ℤ◌, ◌≤ℤ◌, Ok, Result, unsigned_abs}
 use Rattle.market.specs.declared.fault.Cause.TheVariants.{Outside, Missing}
 use Rattle.market.specs.declared.fault.SourceFault.{SourceFault}
 use Rattle.lists.specs.declared.layout.Sizes.{Sizes}

@@ -5,7 +5,7 @@ use Rattle.std.proofs.lemmas.List.{length-take, length-drop}
 use Rattle.std.proofs.lemmas.Int.{ints}
 use Rattle.std.proofs.lemmas.Bool.{cases_lt, cond-true, eq-eqb}
 use Rattle.lists.specs.declared.layout.Sizes.{Sizes}
-use Rattle.lists.specs.Lists.{Passed, cells, num, Bounded}
+use Rattle.lists.specs.Lists.{Passed, cells}
 use Rattle.lists.proofs.Blocks.{first_fits, second_fits}
 use Rattle.market.specs.declared.fault.Cause.TheVariants.{Outside, Missing}
 use Rattle.market.specs.declared.words.Side.{Side}

@@ -1,7 +1,7 @@
 -- A history's price is within the bounds of reference prices, since each of its spreads is. Assumes nothing.
 --   part_bounded      a part of a list has bounded numbers, and past its end 0
 --   history_priced    what a history answers is within bounds
-use Rattle.std.specs.Prelude.{◌≡◌, ℕ, zero, suc, ◌+◌, ◌-◌, ◌*◌, ◌<◌, ◌≤◌, Bool, List, [], ◌∷◌, length, take, drop, ℤ, pos, negsuc, Some, ◌==◌, unsigned_abs}
+use Rattle.std.specs.Prelude.{ℕ, zero, suc, ◌+◌, ◌-◌, ◌*◌, ◌<◌, Bool, List, [], ◌∷◌, length, take, drop, ℤ, pos, negsuc, Some, ◌==◌, unsigned_abs}
 use Rattle.std.proofs.Common.{sym, subst, ◌∙◌, ⊎_elim, arith}
 use Rattle.std.specs.List.{AllByRecursion as All}
 use Rattle.std.proofs.ByRecursion.{All-push}

@@ -3,7 +3,7 @@
 --   posted_price ss ds l s       the price posted for a location and side; cause 1 outside the table, cause 2 where it is empty
 --   EmptyTable p                 no price is posted
 --   Posting p q l s z r          posting z for l and s led from p to q and answered r
-use Rattle.std.specs.Prelude.{◌≡◌, ℕ, ◌-◌, Bool, true, false, cond, ◌&&◌, T, List, ℤ, pos, ◌≤ℤ◌, Some, None, Ok, Err, Option, Result, ◌≢◌, int_le, slice_index_or, unsigned_abs}
+use Rattle.std.specs.Prelude.{◌≡◌, ◌-◌, Bool, true, false, cond, ◌&&◌, T, List, ℤ, ◌≤ℤ◌, Some, None, Ok, Err, Option, Result, ◌≢◌, int_le, slice_index_or, unsigned_abs}
 use Rattle.std.proofs.Common.{sym, subst}
 use Rattle.std.proofs.lemmas.Bool.{and_parts}
 use Rattle.market.specs.declared.fault.Cause.TheVariants.{Outside, Missing}
@@ -15,7 +15,7 @@ use Rattle.market.specs.declared.words.Side.{Side}
 use Rattle.market.specs.declared.words.Side.TheVariants.{Supply, Demand}
 use Rattle.lists.specs.Counted.{is_among}
 use Rattle.reference.specs.declared.posted.Posted.{Posted}
-use Rattle.reference.specs.Prices.{Reference, Priced, fault}
+use Rattle.reference.specs.Prices.{Priced, fault}
 use Rattle.reference.specs.Entries.{in_reference, fair, EachPriced}
 
 abbrev pub in_table : ℤ → Bool

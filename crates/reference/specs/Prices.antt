@@ -5,7 +5,7 @@
 --   asked l r        the answer, a fault beside the location l that was asked for
 --   price_or_refuse l r  the price, or refusal 6 of the location l that was asked for, with the fault whole
 --   missing l s      no price for any location and side
-use Rattle.std.specs.Prelude.{◌≡◌, ℤ, pos, negsuc, ◌≤ℤ◌, Ok, Err, Result}
+use Rattle.std.specs.Prelude.{ℤ, pos, negsuc, ◌≤ℤ◌, Ok, Err, Result}
 use Rattle.market.specs.declared.fault.Cause.{Cause}
 use Rattle.market.specs.declared.fault.Cause.TheVariants.{Missing}
 use Rattle.market.specs.declared.fault.PolicyFault.{PolicyFault}

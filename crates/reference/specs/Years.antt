@@ -1,7 +1,7 @@
 -- The numbers of a history. Assumes nothing.
 --   EachPrice xs     each lies from -1,000,000 to 1,000,000 cents
 --   EachAverage xs   each lies from -12,000,000 to 12,000,000 twelfths of a cent
-use Rattle.std.specs.Prelude.{ℕ, List, get_or, ℤ, pos, negsuc}
+use Rattle.std.specs.Prelude.{ℕ, List, ℤ, pos, negsuc}
 use Rattle.lists.specs.Lists.{Bounded, num}
 
 abbrev pub EachPrice : List ℤ → Type 0

@@ -9,7 +9,7 @@
 --   at_place other xs n      the one at place n, counted from 1, or the other where there is none
 --   replaced xs n x         the list with x at that place
 --   if_some o other f       what f makes of o, or the other where o is none
-use Rattle.std.specs.Prelude.{ℕ, zero, suc, ◌+◌, ◌/◌, Bool, true, false, cond, ◌&&◌, List, [], ◌∷◌, ◌++◌, length, ℤ, pos, negsuc, ◌+ℤ◌, neg_ℤ, Some, None, Option, int_le, slice_index_or, slice_set}
+use Rattle.std.specs.Prelude.{ℕ, zero, suc, ◌+◌, ◌/◌, Bool, true, ◌&&◌, List, [], ◌∷◌, ◌++◌, length, ℤ, pos, negsuc, ◌+ℤ◌, neg_ℤ, Some, None, Option, int_le, slice_index_or, slice_set}
 
 abbrev pub eq_z : ℤ → ℤ → Bool
 eq_z a b = int_le a b && int_le b a

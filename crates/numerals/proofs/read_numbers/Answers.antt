@@ -1,9 +1,9 @@
 -- Each word that is read is a number more, and the rest of the text is what is left to the iterator.
-use Rattle.std.proofs.Common.{◌≡◌, ℕ, true, false, List, [], ◌∷◌, ◌++◌, ℤ, is_ok, vec_items, sym, ap, ◌∙◌, subst, w32, SFits, rules}
+use Rattle.std.proofs.Common.{◌≡◌, true, List, [], ◌∷◌, ◌++◌, ℤ, is_ok, vec_items, sym, ap, ◌∙◌, subst, w32, SFits, rules}
 use Rattle.std.proofs.lemmas.Int.{to_z-of_z}
 use Rattle.std.proofs.lemmas.Bool.{cond-true}
 use Rattle.std.specs.Str.Iter.{split_whitespace_rest}
-use Rattle.numerals.specs.Numbers.{NextWord, is_number, Spelt}
+use Rattle.numerals.specs.Numbers.{Spelt}
 use Rattle.numerals.proofs.Words.{next_word, spelt_more}
 use Rattle.numerals.proofs.read_numbers.Goals as goal
 

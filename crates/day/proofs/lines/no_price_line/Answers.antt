@@ -1,4 +1,4 @@
-use Rattle.std.proofs.Common.{w64, SFits, rules}
+use Rattle.std.proofs.Common.{w64, SFits}
 use Rattle.std.proofs.lemmas.Int.{to_z-of_z}
 use Rattle.day.proofs.lines.no_price_line.Goals as goal
 

@@ -1,7 +1,7 @@
 -- In 128 bits the products are exact.
-use Rattle.std.proofs.Common.{◌≡◌, ℤ, pos, ◌+ℤ◌, ◌*ℤ◌, Option, sym, ap, ◌∙◌, arith, w64, SFits, rules}
+use Rattle.std.proofs.Common.{ℤ, pos, ◌+ℤ◌, ◌*ℤ◌, Option, sym, ap, w64, SFits, rules}
 use mir.Syntax.{w128}
-use Rattle.std.proofs.lemmas.Int.{ints, to_z-of_z}
+use Rattle.std.proofs.lemmas.Int.{to_z-of_z}
 use Rattle.rules.specs.Position.{is_within}
 use Rattle.leaves.proofs.Products.{product_fits}
 use Rattle.leaves.proofs.positions.is_within.Goals as goal

@@ -1,5 +1,5 @@
 -- Half of those between are skipped, so one is met before the end.
-use Rattle.std.proofs.Common.{◌≡◌, ◌+◌, ◌/◌, take, count_by, ap, ◌∙◌, arith, take_all}
+use Rattle.std.proofs.Common.{◌≡◌, ◌+◌, ◌/◌, take, count_by, ap, arith, take_all}
 use Rattle.rank.specs.Narrow.{between}
 use Rattle.rank.proofs.Narrowing.{count_yes, count_no, count_none}
 use Rattle.rank.proofs.pick.middle.Goals as goal

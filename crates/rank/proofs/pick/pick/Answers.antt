@@ -1,5 +1,5 @@
 -- The turn that is left either has the element of the rank or narrows the list; what is outside has too low or too high a rank.
-use Rattle.std.proofs.Common.{◌≡◌, true, get_or, sym, ap, ◌∙◌, subst, arith}
+use Rattle.std.proofs.Common.{◌≡◌, true, sym, subst, arith}
 use Rattle.std.proofs.lemmas.List.{get_or_read}
 use Rattle.rank.specs.Narrow.{between}
 use Rattle.rank.proofs.Narrowing.{none_of_zero, none_between, falls_low, falls_high}

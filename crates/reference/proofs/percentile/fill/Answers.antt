@@ -1,5 +1,5 @@
 -- One hour more: its spread is written behind those before it.
-use Rattle.std.proofs.Common.{◌≡◌, ◌+◌, ◌^◌, ◌<◌, length, get_or, take, pos, ◌∙◌, subst, arith, w32, w64, SFits, rules}
+use Rattle.std.proofs.Common.{◌≡◌, length, get_or, take, pos, ◌∙◌, subst, arith, w32, w64, SFits, rules}
 use Rattle.std.proofs.lemmas.Int.{ints, to_z-of_z}
 use Rattle.reference.specs.Spreads.{spreads_to}
 use Rattle.reference.proofs.Filled.{spreads_more}

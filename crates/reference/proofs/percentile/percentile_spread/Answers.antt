@@ -4,8 +4,6 @@ use Rattle.std.proofs.lemmas.Int.{to_z-of_z}
 use Rattle.rank.specs.declared.spread.DatedSpread.{DatedSpread}
 use Rattle.rank.specs.Orders.{lower_spread}
 use Rattle.rank.specs.Ranks.{Picked}
-use Rattle.reference.specs.Percentile.{percentile_rank}
-use Rattle.reference.specs.Spreads.{spreads_to}
 use Rattle.reference.proofs.Ranked.{never_none, one_value}
 use Rattle.reference.proofs.percentile.percentile_spread.Goals as goal
 

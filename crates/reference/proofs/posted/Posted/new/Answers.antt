@@ -1,5 +1,5 @@
 -- Every entry of an empty table is empty.
-use Rattle.std.proofs.Common.{◌≡◌, ℕ, zero, suc, ◌-◌, true, cond, get_or, replicate, ℤ, nat_abs, Some, None, Err, Option, refl, ap}
+use Rattle.std.proofs.Common.{◌≡◌, ℕ, zero, suc, ◌-◌, cond, get_or, replicate, ℤ, nat_abs, None, Err, Option, refl, ap}
 use Rattle.market.specs.declared.fault.Cause.TheVariants.{Outside}
 use Rattle.market.specs.declared.words.Side.TheVariants.{Supply, Demand}
 use Rattle.reference.specs.Entries.{fair}

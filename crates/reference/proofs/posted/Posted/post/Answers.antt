@@ -1,5 +1,5 @@
 -- The entry that is written is a reference price, and the others are as they were.
-use Rattle.std.proofs.Common.{◌≡◌, ℕ, zero, suc, true, List, [], ◌∷◌, set, ℤ, Some, None, Option, sym, ap, ◌∙◌, rules}
+use Rattle.std.proofs.Common.{◌≡◌, ℕ, zero, suc, true, List, [], ◌∷◌, set, ℤ, Some, Option, sym}
 use Rattle.reference.specs.Entries.{in_reference, EachPriced}
 use Rattle.reference.proofs.posted.Posted.post.Goals as goal
 
