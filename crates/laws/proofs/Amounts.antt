@@ -1,6 +1,6 @@
 -- Every amount is the one that a price call of the run gave, by its sources' meanings and the hour's day-ahead prices.
 use Rattle.std.proofs.Common.{◌≡◌, Bool, true, false, cond, not, ◌||◌, List, [], ◌∷◌, ◌++◌, ℤ, pos, is_some, Some, None, Ok, Err, filter, Option, Result, sym, refl, ap, ◌∙◌, subst, append_assoc, append-nil}
-use Rattle.std.specs.List.{AllByRecursion as All}
+use Rattle.std.specs.List.{AllByRecursion}
 use Rattle.std.proofs.ByRecursion.{All-push, all_kept_by, All-map, All-weaker, kept_by_passes}
 use Rattle.market.specs.Letters.{side_named, class_named, period_named}
 use Rattle.market.specs.declared.day.Day.{Day}
@@ -90,10 +90,10 @@ module _ (m : Prices) (day : Day) (past : List Call) (c : Call) where
   paid_on l n b (Paid q a) e w = still l n b.side b.location b.hour q a e w
 
   abbrev WasAll : Ledger → List BidEntry → Type 0
-  WasAll l bs = All (λ b. Was l b b.stage) bs
+  WasAll l bs = AllByRecursion (λ b. Was l b b.stage) bs
 
   abbrev NowAll : Ledger → List BidEntry → Type 0
-  NowAll n bs = All (λ b. Now n b b.stage) bs
+  NowAll n bs = AllByRecursion (λ b. Now n b b.stage) bs
 
   -- a call that leaves the hours alone
   all_kept : (l n : Ledger) (bs : List BidEntry) → n.hours ≡ l.hours → WasAll l bs → NowAll n bs
@@ -134,7 +134,7 @@ priced_on m day past h d g n b (Ok t) (Paid q a) through at e same w =
     kept m day past (price_hour h d g) (ledger_at m day past) n b (Paid q a) same w
 
 abbrev Amounts : Prices → Day → List Call → Ledger → Type 0
-Amounts m day cs l = All (λ b. StagePriced m day cs l b b.stage) l.bids.entries
+Amounts m day cs l = AllByRecursion (λ b. StagePriced m day cs l b b.stage) l.bids.entries
 
 -- one clear call: a bid that stays and is of the hour is awarded
 cleared_on : (m : Prices) (day : Day) (past : List Call) (c : Call) (h : ℤ) (l n : Ledger) (t : Bool) (o : Option ℤ)

@@ -1,6 +1,6 @@
 -- An award is the end of the last segment that is met.
 use Rattle.std.proofs.Common.{◌≡◌, ℕ, Bool, true, false, cond, List, [], ◌∷◌, ℤ, Some, None, filter, refl, ap, arith}
-use Rattle.std.specs.List.{AllByRecursion as All}
+use Rattle.std.specs.List.{AllByRecursion}
 use Rattle.market.specs.declared.segment.Segment.{Segment}
 use Rattle.rules.specs.Awards.{is_met, last_end}
 use Rattle.laws.specs.Awarding.{LastOf, AwardLaw}
@@ -12,11 +12,11 @@ some_end s (k ∷ ks) e = some_end k ks e
 module _ (p : Segment → Bool) where
   none_one : (t : Bool) (s : Segment) (xs : List Segment) → p s ≡ t
       → last_end (cond t (s ∷ filter p xs) (filter p xs)) ≡ None
-      → (last_end (filter p xs) ≡ None → All (λ s. p s ≡ false) xs) → All (λ s. p s ≡ false) (s ∷ xs)
+      → (last_end (filter p xs) ≡ None → AllByRecursion (λ s. p s ≡ false) xs) → AllByRecursion (λ s. p s ≡ false) (s ∷ xs)
   none_one true s xs t e ih = absurd (some_end s (filter p xs) e)
   none_one false s xs t e ih = (t, ih e)
 
-  none_met : (xs : List Segment) → last_end (filter p xs) ≡ None → All (λ s. p s ≡ false) xs
+  none_met : (xs : List Segment) → last_end (filter p xs) ≡ None → AllByRecursion (λ s. p s ≡ false) xs
   none_met [] e = tt
   none_met (s ∷ xs) e = none_one (p s) s xs refl e (none_met xs)
 
@@ -34,7 +34,7 @@ module _ (p : Segment → Bool) where
 
   -- the last of those kept is this segment, or one of the rest
   last_met : (s : Segment) (ks xs : List Segment) (q : ℤ) → p s ≡ true → last_end (s ∷ ks) ≡ Some q
-      → (last_end ks ≡ Some q → LastOf p xs q) → (last_end ks ≡ None → All (λ s. p s ≡ false) xs) → LastOf p (s ∷ xs) q
+      → (last_end ks ≡ Some q → LastOf p xs q) → (last_end ks ≡ None → AllByRecursion (λ s. p s ≡ false) xs) → LastOf p (s ∷ xs) q
   last_met s [] xs q t e ih none = record {
     front = [];
     last = s;

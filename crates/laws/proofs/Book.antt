@@ -1,6 +1,6 @@
 -- A bid is booked exactly when its questions all say yes, and then only its hold is spent and only it is entered.
 use Rattle.std.proofs.Common.{◌≡◌, ℕ, Bool, true, false, cond, not, List, [], ◌∷◌, ◌++◌, ℤ, pos, ◌+ℤ◌, ◌≤ℤ◌, is_some, Some, None, filter, Option, sym, refl, ap, subst, arith}
-use Rattle.std.specs.List.{AllByRecursion as All}
+use Rattle.std.specs.List.{AllByRecursion}
 use Rattle.std.proofs.lemmas.Int.{ints}
 use Rattle.market.specs.declared.segment.Segment.{Segment}
 use Rattle.market.specs.declared.fault.Fault.{Fault}
@@ -31,7 +31,7 @@ record Split (n : ℤ) (h : HoldEntry) (xs : List HoldEntry) : Type 0 where
   left : filter (λ x. not (eq_z x.number n)) xs ≡ front ++ back
   its_number : h.number ≡ n
 
-none_such : (n : ℤ) (xs : List HoldEntry) → All (λ x. (n +ℤ pos 1) ≤ℤ x.number) xs
+none_such : (n : ℤ) (xs : List HoldEntry) → AllByRecursion (λ x. (n +ℤ pos 1) ≤ℤ x.number) xs
     → filter (λ x. not (eq_z x.number n)) xs ≡ xs
 none_such n [] a = refl
 none_such n (x ∷ xs) a =
@@ -40,14 +40,14 @@ none_such n (x ∷ xs) a =
     rw e (ap (λ (ys : List HoldEntry). x ∷ ys) (none_such n xs a.1))
 
 split_one : (t : Bool) (n : ℤ) (h x : HoldEntry) (xs : List HoldEntry) → eq_z x.number n ≡ t
-    → All (λ y. (x.number +ℤ pos 1) ≤ℤ y.number) xs
+    → AllByRecursion (λ y. (x.number +ℤ pos 1) ≤ℤ y.number) xs
     → first (cond t (x ∷ filter (λ x. eq_z x.number n) xs) (filter (λ x. eq_z x.number n) xs)) ≡ Some h
     → (first (filter (λ x. eq_z x.number n) xs) ≡ Some h → Split n h xs) → Split n h (x ∷ xs)
 split_one true n h x xs t up e ih =
     let k : x ≡ h = cc in
     let num = eq_z_true x.number n t in
     let rest : filter (λ x. not (eq_z x.number n)) xs ≡ xs =
-    none_such n xs (subst (λ (z : ℤ). All (λ y. (z +ℤ pos 1) ≤ℤ y.number) xs) num up) in
+    none_such n xs (subst (λ (z : ℤ). AllByRecursion (λ y. (z +ℤ pos 1) ≤ℤ y.number) xs) num up) in
     subst (λ (y : HoldEntry). Split n y (x ∷ xs)) k (record {
       front = [];
       back = xs;

@@ -1,6 +1,6 @@
 -- Cash, clawbacks and the balancing account.
 use Rattle.std.proofs.Common.{◌≡◌, ℕ, zero, suc, true, false, cond, List, [], ◌∷◌, ◌++◌, length, ℤ, pos, ◌+ℤ◌, ◌-ℤ◌, ◌*ℤ◌, ◌≤ℤ◌, ◌<ℤ◌, filter, sym, refl, ◌∙◌, arith, length-append}
-use Rattle.std.specs.List.{AllByRecursion as All}
+use Rattle.std.specs.List.{AllByRecursion}
 use Rattle.std.proofs.ByRecursion.{All-push, All-weaker}
 use Rattle.std.proofs.lemmas.Int.{ints, by_lt_z}
 use Rattle.market.specs.Letters.{side_named, class_named, period_named}
@@ -86,7 +86,7 @@ split c cs (k ∷ ks) =
     let g = sum_kept (λ c. eq_z c.account k) (λ c. c.cents) cs in
     omega (arith, ints)
 
-all_clawed : (n : ℕ) (cs : List ClawbackEntry) → All (λ c. inside (pos 1) (pos n) c.account ≡ true) cs
+all_clawed : (n : ℕ) (cs : List ClawbackEntry) → AllByRecursion (λ c. inside (pos 1) (pos n) c.account ≡ true) cs
     → total_of cs ≡ sum_of (clawed cs) (up_to n)
 all_clawed n [] a = sym (none_clawed (up_to n))
 all_clawed n (c ∷ cs) a =
@@ -99,10 +99,10 @@ all_clawed n (c ∷ cs) a =
 -- clawbacks are from accounts that are there
 
 record Known (l : Ledger) : Type 0 where
-  known : All (λ c. inside (pos 1) (count_of l.accounts.entries) c.account ≡ true) l.clawbacks
+  known : AllByRecursion (λ c. inside (pos 1) (count_of l.accounts.entries) c.account ≡ true) l.clawbacks
 
-wider : (n k : ℤ) (cs : List ClawbackEntry) → n ≤ℤ k → All (λ c. inside (pos 1) n c.account ≡ true) cs
-    → All (λ c. inside (pos 1) k c.account ≡ true) cs
+wider : (n k : ℤ) (cs : List ClawbackEntry) → n ≤ℤ k → AllByRecursion (λ c. inside (pos 1) n c.account ≡ true) cs
+    → AllByRecursion (λ c. inside (pos 1) k c.account ≡ true) cs
 wider n k cs le a = All-weaker (λ c. inside (pos 1) n c.account ≡ true) (λ c. inside (pos 1) k c.account ≡ true)
     (λ c e. let h = inside_out (pos 1) n c.account e in inside_in (pos 1) k c.account h.0
     (omega (arith, ints, h.1))) cs a

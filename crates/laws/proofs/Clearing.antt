@@ -1,6 +1,6 @@
 -- What clearing an hour leaves: an award for each of its bids that stand, and no bid without one.
 use Rattle.std.proofs.Common.{◌≡◌, ℕ, suc, Bool, true, false, cond, not, ◌&&◌, ◌||◌, List, [], ◌∷◌, ◌++◌, map, length, ℤ, pos, ◌+ℤ◌, ◌≤ℤ◌, is_some, Some, None, filter, Option, sym, refl, ap, ◌∙◌, subst, arith}
-use Rattle.std.specs.List.{AllByRecursion as All}
+use Rattle.std.specs.List.{AllByRecursion}
 use Rattle.std.proofs.ByRecursion.{all_kept_by, All-map, All-weaker, kept_by_passes}
 use Rattle.std.proofs.lemmas.Int.{ints}
 use Rattle.market.specs.declared.segment.Segment.{Segment}
@@ -39,19 +39,19 @@ module _ (hour : ℤ) (prices : List ℤ) where
   )
   given_one false o b t e k = λ x. absurd (clash (is_at hour b) x t)
 
-  given_all : (bs : List BidEntry) → All Given (clear_bids hour prices bs)
+  given_all : (bs : List BidEntry) → AllByRecursion Given (clear_bids hour prices bs)
   given_all bs = All-map Given (clear_bid hour prices) (filter (stays_after hour prices) bs)
       (All-weaker (λ b. stays_after hour prices b ≡ true) (λ b. Given (clear_bid hour prices b))
       (λ b k. given_one (is_at hour b) (award_by prices b) b refl refl k) (filter (stays_after hour prices) bs)
       (kept_by_passes (stays_after hour prices) bs))
 
   -- no met segment, no award
-  none_given : (xs : List Segment) (p : Segment → Bool) → All (λ s. p s ≡ false) xs → filter p xs ≡ []
+  none_given : (xs : List Segment) (p : Segment → Bool) → AllByRecursion (λ s. p s ≡ false) xs → filter p xs ≡ []
   none_given [] p a = refl
   none_given (s ∷ xs) p a = rw a.0 (none_given xs p a.1)
 
   abbrev Unmet : BidEntry → Type 0
-  Unmet b = All (λ s. meets prices b s ≡ false) b.curve
+  Unmet b = AllByRecursion (λ s. meets prices b s ≡ false) b.curve
 
   leaves : (b : BidEntry) → is_at hour b ≡ true → Unmet b → stays_after hour prices b ≡ false
   leaves b t u =
@@ -62,10 +62,10 @@ module _ (hour : ℤ) (prices : List ℤ) where
   same_number t b s = changed (λ d. d.number ≡ b.number) t b s (λ _. refl) refl
 
   abbrev Apart : List BidEntry → BidEntry → Type 0
-  Apart after b = All (λ d. eq_z d.number b.number ≡ false) after
+  Apart after b = AllByRecursion (λ d. eq_z d.number b.number ≡ false) after
 
   -- those after a bid have higher numbers
-  above_kept : (b : BidEntry) (bs : List BidEntry) → All (λ d. (b.number +ℤ pos 1) ≤ℤ d.number) bs
+  above_kept : (b : BidEntry) (bs : List BidEntry) → AllByRecursion (λ d. (b.number +ℤ pos 1) ≤ℤ d.number) bs
       → Apart (clear_bids hour prices bs) b
   above_kept b bs a =
       All-map (λ d. eq_z d.number b.number ≡ false) (clear_bid hour prices) (filter (stays_after hour prices) bs)
@@ -101,13 +101,13 @@ module _ (hour : ℤ) (prices : List ℤ) where
   split false b ks = refl
 
   ended_all : (from : ℤ) (bs : List BidEntry) (next : ℤ) → Rising (λ b. b.number) from bs next
-      → All (Ended (clear_bids hour prices bs)) bs
+      → AllByRecursion (Ended (clear_bids hour prices bs)) bs
   ended_all from [] next r = tt
   ended_all from (b ∷ bs) next r =
       let up = rising_above (λ b. b.number) (b.number +ℤ pos 1) bs next r.1 in
       let rest = ended_all (b.number +ℤ pos 1) bs next r.1 in
       let t = stays_after hour prices b in
-      subst (λ (after : List BidEntry). All (Ended after) (b ∷ bs))
+      subst (λ (after : List BidEntry). AllByRecursion (Ended after) (b ∷ bs))
       (sym (split t b (filter (stays_after hour prices) bs))) (
         ended_head t b (clear_bids hour prices bs) refl (above_kept b bs up),
         All-weaker (λ d. ((b.number +ℤ pos 1) ≤ℤ d.number) × Ended (clear_bids hour prices bs) d)

@@ -1,7 +1,7 @@
 -- Every account's credit covers what it has at stake.
 use Rattle.std.proofs.Common.{◌≡◌, ℕ, Bool, true, false, cond, not, ◌&&◌, List, [], ◌∷◌, ◌++◌, map, length, ℤ, pos, negsuc, ◌+ℤ◌, ◌*ℤ◌, neg_ℤ, nat_abs, ◌≤ℤ◌, is_some, Some, None, Ok, Err, filter, Result, sym, refl, ap, ◌∙◌, subst, arith, length-append}
 use lib.ListN.{length-replicate}
-use Rattle.std.specs.List.{AllByRecursion as All}
+use Rattle.std.specs.List.{AllByRecursion}
 use Rattle.std.proofs.ByRecursion.{All-push, all_kept_by, All-map, All-weaker}
 use Rattle.std.proofs.lemmas.Int.{ints}
 use Rattle.market.specs.Letters.{side_named, class_named, period_named}
@@ -68,7 +68,7 @@ record BidFine (n : ℤ) (b : BidEntry) : Type 0 where
   known : inside (pos 1) n b.account ≡ true
   rated : pos 0 ≤ℤ b.rate
   top : pos 0 ≤ℤ highest_point b.curve
-  curve : All (λ s. Amid (highest_point b.curve) s.end) b.curve
+  curve : AllByRecursion (λ s. Amid (highest_point b.curve) s.end) b.curve
   stage : StageFine b.stage (highest_point b.curve)
   hour : pos 1 ≤ℤ b.hour
 
@@ -80,10 +80,10 @@ abbrev Timely : List HourStage → BidEntry → Type 0
 Timely hs b = is_cleared (at_place uncleared hs b.hour) ≡ false → b.stage ≡ Booked
 
 record Sound (l : Ledger) : Type 0 where
-  limits : All (λ x. pos 0 ≤ℤ x.limit) l.accounts.entries
-  holds : All (HoldFine (accounts_in l)) l.holds.entries
-  bids : All (BidFine (accounts_in l)) l.bids.entries
-  timely : All (Timely l.hours) l.bids.entries
+  limits : AllByRecursion (λ x. pos 0 ≤ℤ x.limit) l.accounts.entries
+  holds : AllByRecursion (HoldFine (accounts_in l)) l.holds.entries
+  bids : AllByRecursion (BidFine (accounts_in l)) l.bids.entries
+  timely : AllByRecursion (Timely l.hours) l.bids.entries
   long : length l.hours ≡ nat_abs l.day.hours
   cover : (a : ℤ) → is_among l.accounts a ≡ true
       → (sum_if (held_by a) hold_charge l.holds.entries +ℤ sum_if (bid_by a) worst l.bids.entries) ≤ℤ credit_of
@@ -92,7 +92,7 @@ record Sound (l : Ledger) : Type 0 where
 hold_low : {n : ℤ} (h : HoldEntry) → HoldFine n h → pos 0 ≤ℤ hold_charge h
 hold_low h f = times_low h.quantity h.rate f.some f.rated
 
-holds_low : (n : ℤ) (hs : List HoldEntry) → All (HoldFine n) hs → All (λ h. pos 0 ≤ℤ hold_charge h) hs
+holds_low : (n : ℤ) (hs : List HoldEntry) → AllByRecursion (HoldFine n) hs → AllByRecursion (λ h. pos 0 ≤ℤ hold_charge h) hs
 holds_low n hs a = All-weaker (HoldFine n) (λ h. pos 0 ≤ℤ hold_charge h) hold_low hs a
 
 stage_low : (s : BidStage) (top rate : ℤ) → pos 0 ≤ℤ top → pos 0 ≤ℤ rate → StageFine s top
@@ -102,7 +102,7 @@ stage_low (Awarded q) top rate t r f = times_low q rate f.0 r
 stage_low (Priced q a) top rate t r f = times_low q rate f.0 r
 stage_low (Paid q a) top rate t r f = omega (arith, ints)
 
-bids_low : (n : ℤ) (bs : List BidEntry) → All (BidFine n) bs → All (λ b. pos 0 ≤ℤ worst b) bs
+bids_low : (n : ℤ) (bs : List BidEntry) → AllByRecursion (BidFine n) bs → AllByRecursion (λ b. pos 0 ≤ℤ worst b) bs
 bids_low n bs a = All-weaker (BidFine n) (λ b. pos 0 ≤ℤ worst b)
     (λ b f. stage_low b.stage (highest_point b.curve) b.rate f.top f.rated f.stage) bs a
 
@@ -118,7 +118,7 @@ abbrev Rising : ℤ → List Segment → Type 0
 Rising from [] = Unit {0}
 Rising from (s ∷ rest) = (from ≤ℤ s.end) × Rising s.end rest
 
-rising : (side : Side) (before : Segment) (curve : List Segment) → All (λ b. b ≡ true) (each_follows side before curve)
+rising : (side : Side) (before : Segment) (curve : List Segment) → AllByRecursion (λ b. b ≡ true) (each_follows side before curve)
     → Rising before.end curve
 rising side before [] a = tt
 rising side before (s ∷ rest) a =
@@ -130,14 +130,14 @@ ends_up from [] r = omega (arith, ints)
 ends_up from (s ∷ rest) r = let e = ends_up s.end rest r.1 in let f = r.0 in omega (arith, ints)
 
 all_amid : (from : ℤ) (curve : List Segment) → pos 0 ≤ℤ from → Rising from curve
-    → All (λ s. Amid (end_from from curve) s.end) curve
+    → AllByRecursion (λ s. Amid (end_from from curve) s.end) curve
 all_amid from [] z r = tt
 all_amid from (s ∷ rest) z r =
     let low : pos 0 ≤ℤ s.end = omega (arith, ints, r.0) in
     ((low, ends_up s.end rest r.1), all_amid s.end rest low r.1)
 
 -- an award is the end of one of the segments
-last_amid : (top : ℤ) (curve : List Segment) (q : ℤ) → All (λ s. Amid top s.end) curve → last_end curve ≡ Some q
+last_amid : (top : ℤ) (curve : List Segment) (q : ℤ) → AllByRecursion (λ s. Amid top s.end) curve → last_end curve ≡ Some q
     → Amid top q
 last_amid top [] q a e = absurd (let z : ◌≡◌ {A = ℕ} 0 1 = cc in omega arith)
 last_amid top (s ∷ []) q a e = let h : s.end ≡ q = cc in subst (Amid top) h a.0
@@ -166,11 +166,11 @@ abs_in (negsuc n) z e = absurd (let h = inside_out (pos 1) (negsuc n) z e in ome
 pub wider : (n k a : ℤ) → n ≤ℤ k → inside (pos 1) n a ≡ true → inside (pos 1) k a ≡ true
 wider n k a le e = let h = inside_out (pos 1) n a e in inside_in (pos 1) k a h.0 (omega (arith, ints, h.1))
 
-holds_wider : (n k : ℤ) (hs : List HoldEntry) → n ≤ℤ k → All (HoldFine n) hs → All (HoldFine k) hs
+holds_wider : (n k : ℤ) (hs : List HoldEntry) → n ≤ℤ k → AllByRecursion (HoldFine n) hs → AllByRecursion (HoldFine k) hs
 holds_wider n k hs le a = All-weaker (HoldFine n) (HoldFine k)
     (λ h f. record { known = wider n k h.account le f.known; rated = f.rated; some = f.some }) hs a
 
-bids_wider : (n k : ℤ) (bs : List BidEntry) → n ≤ℤ k → All (BidFine n) bs → All (BidFine k) bs
+bids_wider : (n k : ℤ) (bs : List BidEntry) → n ≤ℤ k → AllByRecursion (BidFine n) bs → AllByRecursion (BidFine k) bs
 bids_wider n k bs le a =
     All-weaker (BidFine n) (BidFine k) (λ b f. record {
       known = wider n k b.account le f.known;
@@ -193,7 +193,7 @@ booked_worst (Awarded q) top rate e = refl
 booked_worst (Priced q a) top rate e = absurd (let z : ◌≡◌ {A = ℕ} 0 1 = cc in omega arith)
 booked_worst (Paid q a) top rate e = refl
 
-charged : (l : Ledger) (a : ℤ) → All IsBooked l.bids.entries → charges_of l a ≡ sum_if (held_by a) hold_charge
+charged : (l : Ledger) (a : ℤ) → AllByRecursion IsBooked l.bids.entries → charges_of l a ≡ sum_if (held_by a) hold_charge
     l.holds.entries +ℤ sum_if (bid_by a) worst l.bids.entries
 charged l a all =
     let h = sum_kept (held_by a) hold_charge l.holds.entries in
@@ -298,7 +298,7 @@ hour_other hs h k s n = place_set_other uncleared hs s h k n
 abbrev Both : ℤ → List HourStage → BidEntry → Type 0
 Both n hs b = BidFine n b × Timely hs b
 
-pub both : {X : Type 0} (P Q : X → Type 0) (xs : List X) → All P xs → All Q xs → All (λ x. P x × Q x) xs
+pub both : {X : Type 0} (P Q : X → Type 0) (xs : List X) → AllByRecursion P xs → AllByRecursion Q xs → AllByRecursion (λ x. P x × Q x) xs
 both P Q [] p q = tt
 both P Q (x ∷ xs) p q = ((p.0, q.0), both P Q xs p.1 q.1)
 
@@ -316,24 +316,24 @@ timely_after n hs h s b t e c f =
 
 -- accounts
 
-not_held : (n a : ℤ) (hs : List HoldEntry) → inside (pos 1) n a ≡ false → All (HoldFine n) hs
-    → All (λ h. held_by a h ≡ false) hs
+not_held : (n a : ℤ) (hs : List HoldEntry) → inside (pos 1) n a ≡ false → AllByRecursion (HoldFine n) hs
+    → AllByRecursion (λ h. held_by a h ≡ false) hs
 not_held n a hs e x = All-weaker (HoldFine n) (λ h. held_by a h ≡ false)
     (λ h f. eq_z_apart h.account a (λ y. clash (inside (pos 1) n a) (subst (λ (z : ℤ). inside (pos 1) n z ≡ true) y
     f.known) e)) hs x
 
-not_bid : (n a : ℤ) (bs : List BidEntry) → inside (pos 1) n a ≡ false → All (BidFine n) bs
-    → All (λ b. bid_by a b ≡ false) bs
+not_bid : (n a : ℤ) (bs : List BidEntry) → inside (pos 1) n a ≡ false → AllByRecursion (BidFine n) bs
+    → AllByRecursion (λ b. bid_by a b ≡ false) bs
 not_bid n a bs e x = All-weaker (BidFine n) (λ b. bid_by a b ≡ false)
     (λ b f. eq_z_apart b.account a (λ y. clash (inside (pos 1) n a) (subst (λ (z : ℤ). inside (pos 1) n z ≡ true) y
     f.known) e)) bs x
 
-limit_low : (xs : List AccountEntry) (a : ℤ) → All (λ x. pos 0 ≤ℤ x.limit) xs → inside (pos 1) (count_of xs) a ≡ true
+limit_low : (xs : List AccountEntry) (a : ℤ) → AllByRecursion (λ x. pos 0 ≤ℤ x.limit) xs → inside (pos 1) (count_of xs) a ≡ true
     → pos 0 ≤ℤ credit_of (at_place no_account xs a).limit
 limit_low xs a all e = times_low (pos 120) (at_place no_account xs a).limit (omega (arith, ints))
     (place_all (λ x. pos 0 ≤ℤ x.limit) no_account xs a all e)
 
-open_cover : (l : Ledger) (x : AccountEntry) → Sound l → All (λ x. pos 0 ≤ℤ x.limit)
+open_cover : (l : Ledger) (x : AccountEntry) → Sound l → AllByRecursion (λ x. pos 0 ≤ℤ x.limit)
     (l.accounts.entries ++ (x ∷ [])) → (a : ℤ) → inside (pos 1) (count_of (l.accounts.entries ++ (x ∷ []))) a
     ≡ true
     → (sum_if (held_by a) hold_charge l.holds.entries +ℤ sum_if (bid_by a) worst l.bids.entries) ≤ℤ credit_of
@@ -350,7 +350,7 @@ open_cover l x s limits a e =
     let b = sum_none (bid_by a) worst l.bids.entries (not_bid (count_of xs) a l.bids.entries k s.bids) in
     omega (arith, ints))
 
-limit_cover : (l : Ledger) (a₀ k : ℤ) (x : AccountEntry) → x.limit ≡ k → Sound l → All IsBooked l.bids.entries
+limit_cover : (l : Ledger) (a₀ k : ℤ) (x : AccountEntry) → x.limit ≡ k → Sound l → AllByRecursion IsBooked l.bids.entries
     → inside (pos 1) (accounts_in l) a₀ ≡ true → charges_of l a₀ ≤ℤ credit_of k
     → (a : ℤ) → inside (pos 1) (count_of (replaced l.accounts.entries a₀ x)) a ≡ true
     → (sum_if (held_by a) hold_charge l.holds.entries +ℤ sum_if (bid_by a) worst l.bids.entries) ≤ℤ credit_of
@@ -370,7 +370,7 @@ limit_cover l a₀ k x xk s bk known fits a e =
 
 -- holds
 
-hold_cover : (l : Ledger) (h : HoldEntry) → Sound l → All IsBooked l.bids.entries
+hold_cover : (l : Ledger) (h : HoldEntry) → Sound l → AllByRecursion IsBooked l.bids.entries
     → hold_charge h ≤ℤ available_credit l h.account
     → (a : ℤ) → inside (pos 1) (accounts_in l) a ≡ true
     → (sum_if (held_by a) hold_charge (l.holds.entries ++ (h ∷ [])) +ℤ sum_if (bid_by a) worst l.bids.entries)
@@ -406,7 +406,7 @@ fewer_bids l keep s a e =
 
 smaller_bids : (l : Ledger) (keep : BidEntry → Bool) (f : BidEntry → BidEntry) → Sound l → (a : ℤ)
     → is_among l.accounts a ≡ true
-    → All (λ b. Less a b (f b)) (filter keep l.bids.entries)
+    → AllByRecursion (λ b. Less a b (f b)) (filter keep l.bids.entries)
     → (sum_if (held_by a) hold_charge l.holds.entries +ℤ sum_if (bid_by a) worst
     (map f (filter keep l.bids.entries))) ≤ℤ credit_of (account_at l a).limit
 smaller_bids l keep f s a e all =
@@ -415,7 +415,7 @@ smaller_bids l keep f s a e all =
     omega (arith, ints)
 
 changed_bids : (l : Ledger) (f : BidEntry → BidEntry) → Sound l → (a : ℤ) → is_among l.accounts a ≡ true
-    → All (λ b. Less a b (f b)) l.bids.entries
+    → AllByRecursion (λ b. Less a b (f b)) l.bids.entries
     → (sum_if (held_by a) hold_charge l.holds.entries +ℤ sum_if (bid_by a) worst (map f l.bids.entries))
     ≤ℤ credit_of (account_at l a).limit
 changed_bids l f s a e all =

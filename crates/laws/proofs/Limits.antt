@@ -1,7 +1,7 @@
 -- No entity stands beyond its position limit.
 use Rattle.std.proofs.Common.{◌≡◌, ℕ, Bool, true, false, cond, not, ◌&&◌, List, [], ◌∷◌, ◌++◌, map, ℤ, pos, ◌+ℤ◌, ◌*ℤ◌, ◌≤ℤ◌, is_some, Some, None, filter, Option, refl, ap, ◌∙◌, subst, arith}
 use lib.Signed.{le_z}
-use Rattle.std.specs.List.{AllByRecursion as All}
+use Rattle.std.specs.List.{AllByRecursion}
 use Rattle.std.proofs.ByRecursion.{All-push, all_kept_by, All-weaker}
 use Rattle.std.proofs.lemmas.Int.{ints}
 use Rattle.market.specs.Letters.{side_named, class_named, period_named}
@@ -81,9 +81,9 @@ abbrev np : Ledger → ℤ
 np l = count_of l.locations.entries
 
 record Positions (l : Ledger) : Type 0 where
-  limits : All (λ p. pos 0 ≤ℤ p.limit) l.locations.entries
-  holds : All (HoldPlaced (na l) (np l)) l.holds.entries
-  bids : All (BidPlaced (na l) (np l)) l.bids.entries
+  limits : AllByRecursion (λ p. pos 0 ≤ℤ p.limit) l.locations.entries
+  holds : AllByRecursion (HoldPlaced (na l) (np l)) l.holds.entries
+  bids : AllByRecursion (BidPlaced (na l) (np l)) l.bids.entries
   within : (entity location hour : ℤ) → inside (pos 1) (np l) location ≡ true
       → is_within (percent_of (location_at l location).class l.day.month) (location_at l location).limit
       (held l entity location hour) ≡ true
@@ -91,29 +91,29 @@ record Positions (l : Ledger) : Type 0 where
 placed_wider : (a c p q x y : ℤ) → a ≤ℤ c → p ≤ℤ q → Placed a p x y → Placed c q x y
 placed_wider a c p q x y i j f = record { one = wider a c x i f.one; two = wider p q y j f.two }
 
-holds_wider : (a c p q : ℤ) (hs : List HoldEntry) → a ≤ℤ c → p ≤ℤ q → All (HoldPlaced a p) hs
-    → All (HoldPlaced c q) hs
+holds_wider : (a c p q : ℤ) (hs : List HoldEntry) → a ≤ℤ c → p ≤ℤ q → AllByRecursion (HoldPlaced a p) hs
+    → AllByRecursion (HoldPlaced c q) hs
 holds_wider a c p q hs i j all = All-weaker (HoldPlaced a p) (HoldPlaced c q)
     (λ h f. placed_wider a c p q h.account h.location i j f) hs all
 
-bids_wider : (a c p q : ℤ) (bs : List BidEntry) → a ≤ℤ c → p ≤ℤ q → All (BidPlaced a p) bs → All (BidPlaced c q) bs
+bids_wider : (a c p q : ℤ) (bs : List BidEntry) → a ≤ℤ c → p ≤ℤ q → AllByRecursion (BidPlaced a p) bs → AllByRecursion (BidPlaced c q) bs
 bids_wider a c p q bs i j all = All-weaker (BidPlaced a p) (BidPlaced c q)
     (λ b f. (placed_wider a c p q b.account b.location i j f.0, f.1)) bs all
 
-bids_low : (a p : ℤ) (bs : List BidEntry) → All (BidPlaced a p) bs → All (λ b. pos 0 ≤ℤ highest_point b.curve) bs
+bids_low : (a p : ℤ) (bs : List BidEntry) → AllByRecursion (BidPlaced a p) bs → AllByRecursion (λ b. pos 0 ≤ℤ highest_point b.curve) bs
 bids_low a p bs all = All-weaker (BidPlaced a p) (λ b. pos 0 ≤ℤ highest_point b.curve) (λ b f. f.1) bs all
 
 same : (z : ℤ) → z ≤ℤ z
 same z = omega (arith, ints)
 
 -- other accounts, of the same entities
-sum_tests : (p q : BidEntry → Bool) (bs : List BidEntry) → All (λ b. p b ≡ q b) bs → sum_if p top bs ≡ sum_if q top bs
+sum_tests : (p q : BidEntry → Bool) (bs : List BidEntry) → AllByRecursion (λ b. p b ≡ q b) bs → sum_if p top bs ≡ sum_if q top bs
 sum_tests p q [] a = refl
 sum_tests p q (b ∷ bs) a = let e = sum_tests p q bs a.1 in rw a.0 (omega (arith, ints))
 
 same_entities : (xs ys : List AccountEntry) (n p : ℤ) (bs : List BidEntry) (entity location hour : ℤ)
     → ((k : ℤ) → inside (pos 1) n k ≡ true → (at_place no_account ys k).entity ≡ (at_place no_account xs k).entity)
-    → All (BidPlaced n p) bs
+    → AllByRecursion (BidPlaced n p) bs
     → sum_if (counts ys entity location hour) top bs ≡ sum_if (counts xs entity location hour) top bs
 same_entities xs ys n p bs entity location hour e all =
     sum_tests (counts ys entity location hour) (counts xs entity location hour) bs
@@ -141,7 +141,7 @@ parts true false c e = absurd (clash false e refl)
 parts false b c e = absurd (clash false e refl)
 
 nobody_there : (a p location : ℤ) (xs : List AccountEntry) (entity hour : ℤ) (bs : List BidEntry)
-    → inside (pos 1) p location ≡ false → All (BidPlaced a p) bs → sum_if (counts xs entity location hour) top bs ≡ pos
+    → inside (pos 1) p location ≡ false → AllByRecursion (BidPlaced a p) bs → sum_if (counts xs entity location hour) top bs ≡ pos
     0
 nobody_there a p location xs entity hour bs e all = sum_none (counts xs entity location hour) top bs
     (All-weaker (BidPlaced a p) (λ b. counts xs entity location hour b ≡ false) (λ b f.
@@ -149,7 +149,7 @@ nobody_there a p location xs entity hour bs e all = sum_none (counts xs entity l
     (λ y. clash (inside (pos 1) p location) (subst (λ (z : ℤ). inside (pos 1) p z ≡ true) y f.0.two) e) in
     rw t (and_false (eq_z (at_place no_account xs b.account).entity entity) (eq_z b.hour hour))) bs all)
 
-location_pushed : (l : Ledger) (x : LocationEntry) → All (λ p. pos 0 ≤ℤ p.limit) (l.locations.entries ++ (x ∷ []))
+location_pushed : (l : Ledger) (x : LocationEntry) → AllByRecursion (λ p. pos 0 ≤ℤ p.limit) (l.locations.entries ++ (x ∷ []))
     → Positions l
     → (entity location hour : ℤ) → inside (pos 1) (count_of (l.locations.entries ++ (x ∷ []))) location ≡ true
     → is_within (percent_of (at_place no_location (l.locations.entries ++ (x ∷ [])) location).class l.day.month)
@@ -205,7 +205,7 @@ held_still xs entity location hour t g bs = sum_changed (counts xs entity locati
     (λ b. cond (t b) (bid_with b (g b)) b) bs (each bs)
   where
     each : (bs : List BidEntry)
-        → All (λ b. (counts xs entity location hour (cond (t b) (bid_with b (g b)) b) ≡ counts xs entity location hour
+        → AllByRecursion (λ b. (counts xs entity location hour (cond (t b) (bid_with b (g b)) b) ≡ counts xs entity location hour
         b) × (top (cond (t b) (bid_with b (g b)) b) ≤ℤ highest_point b.curve)) bs
     each [] = tt
     each (b ∷ bs) = (
@@ -350,7 +350,7 @@ position_runs m day cs entity location hour e =
     (s.within entity location hour e)
 
 -- no highest point is below zero
-pub tops_low : (m : Prices) (day : Day) (cs : List Call) → All (λ b. pos 0 ≤ℤ highest_point b.curve)
+pub tops_low : (m : Prices) (day : Day) (cs : List Call) → AllByRecursion (λ b. pos 0 ≤ℤ highest_point b.curve)
     (ledger_at m day cs).bids.entries
 tops_low m day cs = let l = ledger_at m day cs in bids_low (na l) (np l) l.bids.entries
     (placed_runs m day cs).bids

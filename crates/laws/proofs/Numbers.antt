@@ -1,6 +1,6 @@
 -- Numbers rise and are given once.
 use Rattle.std.proofs.Common.{◌≡◌, Bool, true, false, cond, List, [], ◌∷◌, ◌++◌, map, ℤ, pos, ◌+ℤ◌, ◌≤ℤ◌, filter, refl, arith, length-append}
-use Rattle.std.specs.List.{AllByRecursion as All}
+use Rattle.std.specs.List.{AllByRecursion}
 use Rattle.std.proofs.ByRecursion.{All-weaker}
 use Rattle.std.proofs.lemmas.Int.{ints}
 use Rattle.market.specs.Letters.{side_named, class_named, period_named}
@@ -45,7 +45,7 @@ same_number t b s = changed (λ d. d.number ≡ b.number) t b s (λ _. refl) ref
 
 -- numbers of a list that rises from a first one on are at least that
 pub rising_above : {X : Type 0} (num : X → ℤ) (a : ℤ) (xs : List X) (next : ℤ) → Rising num a xs next
-    → All (λ x. a ≤ℤ num x) xs
+    → AllByRecursion (λ x. a ≤ℤ num x) xs
 rising_above num a [] next r = tt
 rising_above num a (x ∷ xs) next r =
     let h = r.0 in (

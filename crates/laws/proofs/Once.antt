@@ -1,6 +1,6 @@
 -- One bid a side, location and hour; one adjustment a constraint and period.
 use Rattle.std.proofs.Common.{◌≡◌, ℕ, Bool, true, false, cond, List, [], ◌∷◌, ◌++◌, map, filter, refl, ◌∙◌, arith}
-use Rattle.std.specs.List.{AllByRecursion as All}
+use Rattle.std.specs.List.{AllByRecursion}
 use Rattle.std.proofs.ByRecursion.{All-push, all_kept_by, All-map, All-weaker}
 use Rattle.market.specs.Letters.{side_named, class_named, period_named}
 use Rattle.rules.specs.declared.stages.BidStage.{BidStage}
@@ -14,7 +14,7 @@ use Rattle.laws.specs.Standing.{Unlike, same_bid, same_clawback, EachOnce}
 use Rattle.laws.proofs.Runs.{Passed, none_there, by_test, if_some_lem, asked_of, every_run, held_step}
 
 module _ {X : Type 0} (alike : X → X → Bool) where
-  unlike_one : (t : Bool) (x : X) (ys xs : List X) → All (λ y. alike x y ≡ false) ys → Unlike alike ys
+  unlike_one : (t : Bool) (x : X) (ys xs : List X) → AllByRecursion (λ y. alike x y ≡ false) ys → Unlike alike ys
       → Unlike alike (cond t (x ∷ ys) ys)
   unlike_one true x ys xs a u = (a, u)
   unlike_one false x ys xs a u = u
@@ -24,7 +24,7 @@ module _ {X : Type 0} (alike : X → X → Bool) where
   unlike_kept keep (x ∷ xs) u = unlike_one (keep x) x (filter keep xs) xs
       (all_kept_by keep (λ y. alike x y ≡ false) xs u.0) (unlike_kept keep xs u.1)
 
-  pub unlike_entered : (xs : List X) (x : X) → All (λ y. alike y x ≡ false) xs → Unlike alike xs
+  pub unlike_entered : (xs : List X) (x : X) → AllByRecursion (λ y. alike y x ≡ false) xs → Unlike alike xs
       → Unlike alike (xs ++ (x ∷ []))
   unlike_entered [] x a u = (tt, tt)
   unlike_entered (y ∷ xs) x a u = (
@@ -42,7 +42,7 @@ module _ {X : Type 0} (alike : X → X → Bool) where
     unlike_changed f e xs u.1,
   )
 
-none_kept : {X : Type 0} (p : X → Bool) (xs : List X) → filter p xs ≡ [] → All (λ x. p x ≡ false) xs
+none_kept : {X : Type 0} (p : X → Bool) (xs : List X) → filter p xs ≡ [] → AllByRecursion (λ x. p x ≡ false) xs
 none_kept p [] e = tt
 none_kept {X} p (x ∷ xs) e = by_test (p x)
     (λ t. let k : x ∷ filter p xs ≡ [] = rw t at e in absurd (let z : ◌≡◌ {A = ℕ} 0 1 = cc in omega arith))

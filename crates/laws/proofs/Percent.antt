@@ -1,7 +1,7 @@
 -- The percentages by class and month; positions are not netted.
 use Rattle.std.proofs.Common.{◌≡◌, ℕ, Bool, true, false, cond, ◌&&◌, List, [], ◌∷◌, ℤ, pos, ◌+ℤ◌, ◌≤ℤ◌, ◌<ℤ◌, Some, None, Option, refl, ◌∙◌, arith}
 use lib.Signed.{le_z}
-use Rattle.std.specs.List.{AllByRecursion as All}
+use Rattle.std.specs.List.{AllByRecursion}
 use Rattle.std.proofs.ByRecursion.{all_kept_by}
 use Rattle.std.proofs.lemmas.Int.{ints}
 use Rattle.market.specs.declared.words.Side.{Side}
@@ -64,7 +64,7 @@ both_sides_add p (b ∷ bs) =
     let h = one_side b.side (p b) (top b) in
     omega (arith, ints)
 
-sum_low : (bs : List BidEntry) → All (λ b. pos 0 ≤ℤ top b) bs → pos 0 ≤ℤ sum_of top bs
+sum_low : (bs : List BidEntry) → AllByRecursion (λ b. pos 0 ≤ℤ top b) bs → pos 0 ≤ℤ sum_of top bs
 sum_low [] a = omega (arith, ints)
 sum_low (b ∷ bs) a = let e = sum_low bs a.1 in let h = a.0 in omega (arith, ints)
 

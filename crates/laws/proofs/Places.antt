@@ -1,6 +1,6 @@
 -- Places counted from 1 in a list.
 use Rattle.std.proofs.Common.{◌≡◌, ℕ, zero, suc, ◌<◌, true, List, [], ◌∷◌, ◌++◌, length, ℤ, pos, negsuc, refl, ap, arith, length-set}
-use Rattle.std.specs.List.{AllByRecursion as All}
+use Rattle.std.specs.List.{AllByRecursion}
 use Rattle.std.proofs.ByRecursion.{All-set, All-get_or}
 use Rattle.std.proofs.lemmas.Int.{ints}
 use Rattle.std.proofs.lemmas.List.{get_or_append_left, get_or-set_same, get_or-set_other}
@@ -33,7 +33,7 @@ place_set_other d xs x (pos (suc i)) (pos (suc j)) n =
     get_or-set_other xs i j x d (λ e. n (ap (λ (k : ℕ). pos (suc k)) e))
 place_set_other d xs x (pos (suc i)) (negsuc j) n = refl
 
-pub place_all : {X : Type 0} (P : X → Type 0) (d : X) (xs : List X) (a : ℤ) → All P xs
+pub place_all : {X : Type 0} (P : X → Type 0) (d : X) (xs : List X) (a : ℤ) → AllByRecursion P xs
     → inside (pos 1) (count_of xs) a ≡ true → P (at_place d xs a)
 place_all P d xs (pos zero) all e = absurd (let h = inside_out (pos 1) (count_of xs) (pos zero) e in
     omega (arith, ints, h.0))
@@ -46,8 +46,8 @@ replaced_long xs (pos zero) x = refl
 replaced_long xs (pos (suc n)) x = length-set xs n x
 replaced_long xs (negsuc n) x = refl
 
-pub replaced_all : {X : Type 0} (P : X → Type 0) (xs : List X) (a : ℤ) (x : X) → All P xs → P x
-    → All P (replaced xs a x)
+pub replaced_all : {X : Type 0} (P : X → Type 0) (xs : List X) (a : ℤ) (x : X) → AllByRecursion P xs → P x
+    → AllByRecursion P (replaced xs a x)
 replaced_all P xs (pos zero) x all p = all
 replaced_all P xs (pos (suc n)) x all p = All-set P xs n x p all
 replaced_all P xs (negsuc n) x all p = all

@@ -1,7 +1,7 @@
 -- Each rank has one account: a list in a strict order has, for each number below its length, one element with that many before it.
 use Rattle.std.proofs.Common.{◌≡◌, ℕ, zero, suc, ◌+◌, ◌<◌, ◌≤◌, Bool, true, false, cond, ◌⊎◌, List, [], ◌∷◌, ◌++◌, length, ℤ, pos, negsuc, ◌+ℤ◌, ◌<ℤ◌, Some, None, Ok, filter, Option, unwrap_or, sym, refl, ap, ◌∙◌, subst, inl, inr, ⊎_elim, arith, length-append}
 use lib.Signed.{lt_z}
-use Rattle.std.specs.List.{AllByRecursion as All}
+use Rattle.std.specs.List.{AllByRecursion}
 use Rattle.std.proofs.ByRecursion.{All-push, All-weaker, kept_by_passes}
 use Rattle.std.proofs.lemmas.Bool.{cases_order}
 use Rattle.std.proofs.lemmas.Int.{ints, by_lt_z}
@@ -96,7 +96,7 @@ module _ (before : ℤ → ℤ → Bool) (s : Strict before) where
   ahead_cons : (a x : ℤ) (xs : List ℤ) → ahead a (x ∷ xs) ≡ cond (before x a) 1 0 + ahead a xs
   ahead_cons a x xs = many_cons (λ o. before o a) x xs
 
-  apart : (a x : ℤ) (ys : List ℤ) → All (λ y. eq_z x y ≡ false) ys → In a ys → a ≡ x → ⊥
+  apart : (a x : ℤ) (ys : List ℤ) → AllByRecursion (λ y. eq_z x y ≡ false) ys → In a ys → a ≡ x → ⊥
   apart a x [] k i e = i
   apart a x (y ∷ ys) k i e = ⊎_elim (λ z. clash (eq_z x y) (eq_z_same x y (sym e ∙ z)) k.0)
       (λ j. apart a x ys k.1 j e) i
@@ -121,7 +121,7 @@ module _ (before : ℤ → ℤ → Bool) (s : Strict before) where
       (q.0, inr q.1, g)
 
   -- one that goes after it
-  higher : (x : ℤ) (xs : List ℤ) (k : ℕ) → All (λ y. eq_z x y ≡ false) xs → ahead x xs ≤ k → Ranked xs k
+  higher : (x : ℤ) (xs : List ℤ) (k : ℕ) → AllByRecursion (λ y. eq_z x y ≡ false) xs → ahead x xs ≤ k → Ranked xs k
       → Ranked (x ∷ xs) (suc k)
   higher x xs k u le q =
       let w = q.2 in
@@ -214,7 +214,7 @@ in_up_to (suc n) a e =
     (by_lt_z (pos n) a (λ k. absurd
     (clash (eq_z a (pos (suc n))) (eq_z_same a (pos (suc n)) (omega (arith, ints, h.1))) t)) (λ k. k))))))
 
-up_to_inside : (n k : ℕ) → n ≤ k → All (λ a. inside (pos 1) (pos k) a ≡ true) (up_to n)
+up_to_inside : (n k : ℕ) → n ≤ k → AllByRecursion (λ a. inside (pos 1) (pos k) a ≡ true) (up_to n)
 up_to_inside zero k h = tt
 up_to_inside (suc n) k h = All-push (λ a. inside (pos 1) (pos k) a ≡ true) (up_to n) (pos (suc n))
     (up_to_inside n k (omega arith)) (inside_in (pos 1) (pos k) (pos (suc n)) (omega (arith, ints))

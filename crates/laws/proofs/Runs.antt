@@ -1,6 +1,6 @@
 -- What each call keeps that goes through, every run keeps.
 use Rattle.std.proofs.Common.{◌≡◌, ℕ, suc, ◌≤◌, Bool, true, false, cond, not, ◌&&◌, List, [], ◌∷◌, map, length, ℤ, pos, ◌+ℤ◌, Some, None, Ok, Err, filter, Option, Result, sym, refl, ap, subst, arith}
-use Rattle.std.specs.List.{AllByRecursion as All}
+use Rattle.std.specs.List.{AllByRecursion}
 use Rattle.std.proofs.ByRecursion.{all_kept_by, All-map, All-weaker}
 use Rattle.market.specs.declared.words.Side.{Side}
 use Rattle.market.specs.declared.fault.Fault.{Fault}
@@ -15,7 +15,7 @@ use Rattle.rules.specs.Words.{first, if_some}
 
 -- all questions of a call were answered yes
 abbrev pub Yes : List (Option Fault) → Type 0
-Yes qs = All (λ q. q ≡ None) qs
+Yes qs = AllByRecursion (λ q. q ≡ None) qs
 
 abbrev pub Passed : Prices → Ledger → Call → Type 0
 Passed m l c = Yes (questions m l c)
@@ -29,7 +29,7 @@ pub asked : (f : Fault) (b : Bool) → ask f b ≡ None → b ≡ true
 asked f true e = refl
 asked f false e = absurd (let z : ◌≡◌ {A = ℕ} 0 1 = cc in omega arith)
 
-pub each_so : (fault_at : ℤ → Fault) (n : ℤ) (bs : List Bool) → ask_each fault_at n bs ≡ None → All (λ b. b ≡ true) bs
+pub each_so : (fault_at : ℤ → Fault) (n : ℤ) (bs : List Bool) → ask_each fault_at n bs ≡ None → AllByRecursion (λ b. b ≡ true) bs
 each_so fault_at n [] e = tt
 each_so fault_at n (b ∷ bs) e =
     let q = passed (ask (fault_at n) b ∷ ask_each fault_at (n +ℤ pos 1) bs ∷ []) e in
@@ -80,17 +80,17 @@ changed P true b s f p = f refl
 changed P false b s f p = p
 
 -- the first of a list has what each has
-pub first_has : {X : Type 0} (P : X → Type 0) (xs : List X) (x : X) → first xs ≡ Some x → All P xs → P x
+pub first_has : {X : Type 0} (P : X → Type 0) (xs : List X) (x : X) → first xs ≡ Some x → AllByRecursion P xs → P x
 first_has P [] x e a = absurd (let z : ◌≡◌ {A = ℕ} 0 1 = cc in omega arith)
 first_has P (y ∷ ys) x e a = let h : y ≡ x = cc in subst P h a.0
 
 pub found_has : {X : Type 0} (P : X → Type 0) (test : X → Bool) (xs : List X) (x : X)
-    → first (filter test xs) ≡ Some x → All P xs → P x
+    → first (filter test xs) ≡ Some x → AllByRecursion P xs → P x
 found_has P test xs x e a = first_has P (filter test xs) x e (all_kept_by test P xs a)
 
 -- each of the bids, after clear, price or pay changed some in their stage
 pub all_changed : (P : BidEntry → Type 0) (f : BidEntry → BidEntry) → ((b : BidEntry) → P b → P (f b))
-    → (bs : List BidEntry) → All P bs → All P (map f bs)
+    → (bs : List BidEntry) → AllByRecursion P bs → AllByRecursion P (map f bs)
 all_changed P f g bs a = All-map P f bs (All-weaker P (λ b. P (f b)) g bs a)
 
 pub not_first : (a b : Bool) → (not a && b) ≡ true → a ≡ false

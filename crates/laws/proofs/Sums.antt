@@ -1,7 +1,7 @@
 -- Sums over the entries of an account: what leaving, changing and entering do to them.
 use Rattle.std.proofs.Common.{◌≡◌, ℕ, ◌*◌, ◌≤◌, Bool, true, false, cond, not, List, [], ◌∷◌, ◌++◌, map, ℤ, pos, negsuc, ◌+ℤ◌, ◌*ℤ◌, ◌≤ℤ◌, Some, filter, refl, ap, subst, mul-le-mul, arith}
 use lib.Signed.{le_z}
-use Rattle.std.specs.List.{AllByRecursion as All}
+use Rattle.std.specs.List.{AllByRecursion}
 use Rattle.std.proofs.lemmas.Int.{ints}
 use Rattle.rules.specs.Credit.{rate_of}
 use Rattle.rules.specs.Words.{eq_z, inside, first, sum_of}
@@ -76,14 +76,14 @@ module _ {X : Type 0} (p : X → Bool) (f : X → ℤ) where
   shrunk_one false x ys z h e = let k = part_low (p x) (f x) h in omega (arith, ints)
 
   -- some leave
-  pub sum_shrunk : (keep : X → Bool) (xs : List X) → All (λ x. pos 0 ≤ℤ f x) xs → sum_if p f (filter keep xs) ≤ℤ sum_if
+  pub sum_shrunk : (keep : X → Bool) (xs : List X) → AllByRecursion (λ x. pos 0 ≤ℤ f x) xs → sum_if p f (filter keep xs) ≤ℤ sum_if
       p f xs
   sum_shrunk keep [] a = omega (arith, ints)
   sum_shrunk keep (x ∷ xs) a = shrunk_one (keep x) x (filter keep xs) (sum_if p f xs) a.0
       (sum_shrunk keep xs a.1)
 
   -- each changes, and none to more
-  pub sum_changed : (g : X → X) (xs : List X) → All (λ x. (p (g x) ≡ p x) × (f (g x) ≤ℤ f x)) xs
+  pub sum_changed : (g : X → X) (xs : List X) → AllByRecursion (λ x. (p (g x) ≡ p x) × (f (g x) ≤ℤ f x)) xs
       → sum_if p f (map g xs) ≤ℤ sum_if p f xs
   sum_changed g [] a = omega (arith, ints)
   sum_changed g (x ∷ xs) a =
@@ -98,7 +98,7 @@ module _ {X : Type 0} (p : X → Bool) (f : X → ℤ) where
   sum_entered (y ∷ xs) x = let e = sum_entered xs x in omega (arith, ints)
 
   -- none passes
-  pub sum_none : (xs : List X) → All (λ x. p x ≡ false) xs → sum_if p f xs ≡ pos 0
+  pub sum_none : (xs : List X) → AllByRecursion (λ x. p x ≡ false) xs → sum_if p f xs ≡ pos 0
   sum_none [] a = refl
   sum_none (x ∷ xs) a = let e = sum_none xs a.1 in rw a.0 (omega (arith, ints))
 
@@ -113,7 +113,7 @@ module _ {X : Type 0} (p : X → Bool) (f : X → ℤ) where
   spent_one x false y ks ns z low le ih e = let h = ih e in omega (arith, ints)
 
   -- those with a mark leave, and the first of them counts once more
-  pub sum_spent : (mark : X → Bool) (xs : List X) (x : X) → All (λ x. pos 0 ≤ℤ f x) xs
+  pub sum_spent : (mark : X → Bool) (xs : List X) (x : X) → AllByRecursion (λ x. pos 0 ≤ℤ f x) xs
       → first (filter mark xs) ≡ Some x
       → (sum_if p f (filter (λ x. not (mark x)) xs) +ℤ cond (p x) (f x) (pos 0)) ≤ℤ sum_if p f xs
   sum_spent mark [] x a e = absurd (let z : ◌≡◌ {A = ℕ} 0 1 = cc in omega arith)
@@ -121,7 +121,7 @@ module _ {X : Type 0} (p : X → Bool) (f : X → ℤ) where
       spent_one x (mark y) y (filter mark xs) (filter (λ x. not (mark x)) xs) (sum_if p f xs) a.0
       (sum_shrunk (λ x. not (mark x)) xs a.1) (sum_spent mark xs x a.1) e
 
-pub sum_same : {X : Type 0} (p : X → Bool) (f g : X → ℤ) (xs : List X) → All (λ x. f x ≡ g x) xs
+pub sum_same : {X : Type 0} (p : X → Bool) (f g : X → ℤ) (xs : List X) → AllByRecursion (λ x. f x ≡ g x) xs
     → sum_if p f xs ≡ sum_if p g xs
 sum_same p f g [] a = refl
 sum_same p f g (x ∷ xs) a = let e = sum_same p f g xs a.1 in rw a.0 (omega (arith, ints))

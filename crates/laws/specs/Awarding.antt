@@ -9,7 +9,7 @@
 --                             source had an average, and the amount is what this and the hour's day-ahead price give
 --   AmountLaw                 so is every amount of a priced or paid award, after every run
 use Rattle.std.specs.Prelude.{◌≡◌, Bool, true, false, List, ◌∷◌, ◌++◌, ℤ, pos, ◌≤ℤ◌, Some, None, Ok, filter}
-use Rattle.std.specs.List.{AllByRecursion as All}
+use Rattle.std.specs.List.{AllByRecursion}
 use Rattle.market.specs.declared.day.Day.{Day}
 use Rattle.market.specs.declared.segment.Segment.{Segment}
 use Rattle.market.specs.declared.words.Side.{Side}
@@ -29,17 +29,17 @@ pub record LastOf (passes : Segment → Bool) (curve : List Segment) (q : ℤ) :
   pub back : List Segment
   pub whole : curve ≡ front ++ (last ∷ back)
   pub met : passes last ≡ true
-  pub none_later : All (λ s. passes s ≡ false) back
+  pub none_later : AllByRecursion (λ s. passes s ≡ false) back
   pub end : q ≡ last.end
 
 pub record AwardLaw : Type 0 where
   pub some : (side : Side) (day_ahead : ℤ) (curve : List Segment) (q : ℤ) → award_of side day_ahead curve ≡ Some q
       → LastOf (is_met side day_ahead) curve q
   pub none : (side : Side) (day_ahead : ℤ) (curve : List Segment) → award_of side day_ahead curve ≡ None
-      → All (λ s. is_met side day_ahead s ≡ false) curve
+      → AllByRecursion (λ s. is_met side day_ahead s ≡ false) curve
 
 abbrev pub AwardsWithin : Prices → Ledger → Type 0
-AwardsWithin m l = All (λ b. is_award b.stage ≡ true
+AwardsWithin m l = AllByRecursion (λ b. is_award b.stage ≡ true
     → (pos 0 ≤ℤ award_in b.stage) × (award_in b.stage ≤ℤ highest_point b.curve)) l.bids.entries
 
 abbrev pub meets : List ℤ → BidEntry → Segment → Bool
@@ -47,12 +47,12 @@ meets prices b = is_met b.side (at_place (pos 0) prices b.location)
 
 pub record ClearedBy (hour : ℤ) (prices : List ℤ) (before after : List BidEntry) : Type 0 where
   -- each bid of the hour that stands has the end of the last of its segments that is met
-  pub awarded : All (λ b. is_at hour b ≡ true
+  pub awarded : AllByRecursion (λ b. is_at hour b ≡ true
       → (q : ℤ) × (b.stage ≡ Awarded q) × LastOf (meets prices b) b.curve q) after
   -- and one without such a segment has ended
-  pub ended : All (λ b. is_at hour b ≡ true
-      → All (λ s. meets prices b s ≡ false) b.curve
-      → All (λ d. eq_z d.number b.number ≡ false) after) before
+  pub ended : AllByRecursion (λ b. is_at hour b ≡ true
+      → AllByRecursion (λ s. meets prices b s ≡ false) b.curve
+      → AllByRecursion (λ d. eq_z d.number b.number ≡ false) after) before
 
 pub record ClearLaw (m : Prices) (l : Ledger) : Type 0 where
   pub bids : (hour : ℤ) (prices : List ℤ) → refusal_of m l (clear_hour hour prices) ≡ None
@@ -83,4 +83,4 @@ StagePriced m day cs l b (Paid quantity amount) = PricedIn m day cs l b.side b.l
 
 abbrev pub AmountLaw : Type 0
 AmountLaw = (m : Prices) (day : Day) (cs : List Call)
-    → All (λ b. StagePriced m day cs (ledger_at m day cs) b b.stage) (ledger_at m day cs).bids.entries
+    → AllByRecursion (λ b. StagePriced m day cs (ledger_at m day cs) b b.stage) (ledger_at m day cs).bids.entries

@@ -3,7 +3,7 @@
 --                                      and rate; all else stays
 --   BookingLaw m l    a bid is booked exactly when its questions all say yes; a refused one changes nothing
 use Rattle.std.specs.Prelude.{◌≡◌, List, [], ◌∷◌, ◌++◌, ℤ, pos, ◌+ℤ◌, None}
-use Rattle.std.specs.List.{AllByRecursion as All}
+use Rattle.std.specs.List.{AllByRecursion}
 use Rattle.market.specs.declared.segment.Segment.{Segment}
 use Rattle.market.specs.declared.fault.Fault.{Fault}
 use Rattle.rules.specs.declared.entries.HoldEntry.{HoldEntry}
@@ -30,10 +30,10 @@ pub record BookedOn (l after : Ledger) (hold hour : ℤ) (curve : List Segment) 
 
 pub record BookingLaw (m : Prices) (l : Ledger) : Type 0 where
   pub booked : (hold hour : ℤ) (curve : List Segment)
-      → All (λ q. q ≡ None) (questions m l (place_bid hold hour curve))
+      → AllByRecursion (λ q. q ≡ None) (questions m l (place_bid hold hour curve))
       → (answer_to m l (place_bid hold hour curve) ≡ numbered l.bids.next) × BookedOn l
       (move_by m l (place_bid hold hour curve)) hold hour curve
   pub only_then : (hold hour : ℤ) (curve : List Segment) (n : ℤ) → answer_to m l (place_bid hold hour curve) ≡ numbered
-      n → All (λ q. q ≡ None) (questions m l (place_bid hold hour curve))
+      n → AllByRecursion (λ q. q ≡ None) (questions m l (place_bid hold hour curve))
   pub else_nothing : (hold hour : ℤ) (curve : List Segment) (fault : Fault) → answer_to m l (place_bid hold hour curve)
       ≡ refused fault → move_by m l (place_bid hold hour curve) ≡ l

@@ -9,7 +9,7 @@
 --   Nearest step amount c   c is the nearest whole number of steps to an amount; at a tie, the one away from zero
 --   RoundingLaws            rounding gives it, and nothing else is it
 use Rattle.std.specs.Prelude.{◌≡◌, ℕ, true, ℤ, pos, ◌+ℤ◌, ◌-ℤ◌, ◌*ℤ◌, ◌≤ℤ◌, ◌<ℤ◌, Ok, Err, Result}
-use Rattle.std.specs.List.{AllByRecursion as All}
+use Rattle.std.specs.List.{AllByRecursion}
 use Rattle.market.specs.declared.fault.PolicyFault.{PolicyFault}
 use Rattle.rules.specs.Awards.{award_in, amount_in, cents_of}
 use Rattle.rules.specs.Calls.{Prices}
@@ -25,8 +25,8 @@ RatedAs (Ok price) rate = rate ≡ rate_of price
 RatedAs (Err fault) rate = ⊥
 
 pub record RatedByMeaning (m : Prices) (l : Ledger) : Type 0 where
-  pub holds : All (λ h. RatedAs (m h.location h.side) h.rate) l.holds.entries
-  pub bids : All (λ b. RatedAs (m b.location b.side) b.rate) l.bids.entries
+  pub holds : AllByRecursion (λ h. RatedAs (m h.location h.side) h.rate) l.holds.entries
+  pub bids : AllByRecursion (λ b. RatedAs (m b.location b.side) b.rate) l.bids.entries
 
 abbrev pub at_stake : Ledger → ℤ → ℤ
 at_stake l account = sum_of (λ b. charge_of (award_in b.stage) b.rate +ℤ amount_in b.stage) (due_to l account)

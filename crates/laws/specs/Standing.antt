@@ -10,7 +10,7 @@
 --   Unlike alike xs    no two of a list are alike
 --   EachOnce m l       an account has one bid a side, location and hour, and one adjustment a constraint and period
 use Rattle.std.specs.Prelude.{◌≡◌, ℕ, ◌≤◌, Bool, true, false, cond, ◌&&◌, List, [], ◌∷◌, ◌++◌, length, ℤ, pos, ◌+ℤ◌, ◌≤ℤ◌, ◌==◌}
-use Rattle.std.specs.List.{AllByRecursion as All}
+use Rattle.std.specs.List.{AllByRecursion}
 use Rattle.market.specs.declared.day.Day.{Day}
 use Rattle.rules.specs.declared.entries.ClawbackEntry.{ClawbackEntry}
 use Rattle.rules.specs.declared.stages.BidStage.TheVariants.{Booked}
@@ -23,7 +23,7 @@ use Rattle.rules.specs.Words.{eq_z, count_of, up_to}
 
 pub record Orderly (m : Prices) (l : Ledger) : Type 0 where
   pub no_holds_stand : is_open l.stage ≡ false → l.holds.entries ≡ []
-  pub all_booked : is_open l.stage ≡ true → All (λ b. b.stage ≡ Booked) l.bids.entries
+  pub all_booked : is_open l.stage ≡ true → AllByRecursion (λ b. b.stage ≡ Booked) l.bids.entries
 
 pub record Sized (m : Prices) (l : Ledger) : Type 0 where
   pub accounts : length l.accounts.entries ≤ 16
@@ -83,7 +83,7 @@ pub record NumbersInTurn : Type 0 where
 
 abbrev pub Unlike : {X : Type 0} → (X → X → Bool) → List X → Type 0
 Unlike alike [] = Unit {0}
-Unlike alike (x ∷ xs) = All (λ y. alike x y ≡ false) xs × Unlike alike xs
+Unlike alike (x ∷ xs) = AllByRecursion (λ y. alike x y ≡ false) xs × Unlike alike xs
 
 abbrev pub same_bid : BidEntry → BidEntry → Bool
 same_bid b d = eq_z b.account d.account

@@ -1,20 +1,20 @@
 -- Where no two elements are the same, each rank up to the length has an element, and elements of one rank are not before one another. Assumes nothing.
 use Rattle.std.proofs.Common.{◌≡◌, ℕ, zero, suc, ◌+◌, ◌-◌, ◌<◌, ◌≤◌, Bool, true, false, cond, not, eqb, List, [], ◌∷◌, ◌++◌, length, Some, None, Option, sym, refl, ap, ◌∙◌, subst, ⊎_elim, arith}
-use Rattle.std.specs.List.{ContainsAt as Has, AllByRecursion as All}
+use Rattle.std.specs.List.{ContainsAt, AllByRecursion}
 use Rattle.std.proofs.lemmas.List.Sums.{sum_by-cons, count_by-le-length}
 use Rattle.std.proofs.ByRecursion.{all-has, All-push, has_append_right}
 use Rattle.std.proofs.lemmas.Bool.{cases_Bool, cases_order, cond-true, cond-false, eq-eqb, eqb-true}
 use Rattle.rank.specs.Ranks.{ahead, first_with, at_rank, Apart}
 use Rattle.rank.proofs.Narrowing.{count_mono, count_less}
 
-has_here : {X : Type 0} (x : X) (xs : List X) → Has (x ∷ xs) x
+has_here : {X : Type 0} (x : X) (xs : List X) → ContainsAt (x ∷ xs) x
 has_here x xs = (0, omega arith, λ d. refl)
 
-has_later : {X : Type 0} (y x : X) (xs : List X) → Has xs x → Has (y ∷ xs) x
+has_later : {X : Type 0} (y x : X) (xs : List X) → ContainsAt xs x → ContainsAt (y ∷ xs) x
 has_later y x xs h = has_append_right (y ∷ []) xs x h
 
 -- one element more at the end, unlike all before it
-pub apart_push : {X : Type 0} (xs : List X) (y : X) → Apart xs → All (λ x. x ≡ y → ⊥) xs → Apart (xs ++ y ∷ [])
+pub apart_push : {X : Type 0} (xs : List X) (y : X) → Apart xs → AllByRecursion (λ x. x ≡ y → ⊥) xs → Apart (xs ++ y ∷ [])
 apart_push [] y a b = (tt, tt)
 apart_push (x ∷ xs) y a b = (All-push (λ z. x ≡ z → ⊥) xs y a.0 b.0, apart_push xs y a.1 b.1)
 
@@ -22,16 +22,16 @@ none_is_not_some : {X : Type 0} {x : X} → ◌≡◌ {A = Option X} None (Some 
 none_is_not_some e = let z : ◌≡◌ {A = ℕ} 0 1 = cc in omega arith
 
 -- the first that passes does, and stands in the list; there is one where some element passes
-pub first_passes : {X : Type 0} (p : X → Bool) (xs : List X) (x : X) → first_with p xs ≡ Some x → Has xs x × (p x ≡ true)
+pub first_passes : {X : Type 0} (p : X → Bool) (xs : List X) (x : X) → first_with p xs ≡ Some x → ContainsAt xs x × (p x ≡ true)
 first_passes p [] x e = absurd (none_is_not_some e)
 first_passes p (y ∷ ys) x e =
     ⊎_elim
     (λ t. let same : y ≡ x = cc (cond-true (p y) (Some y) (first_with p ys) t) in
-    (subst (λ z. Has (y ∷ ys) z) same (has_here y ys), subst (λ z. p z ≡ true) same t))
+    (subst (λ z. ContainsAt (y ∷ ys) z) same (has_here y ys), subst (λ z. p z ≡ true) same t))
     (λ f. let r = first_passes p ys x (sym (cond-false (p y) (Some y) (first_with p ys) f) ∙ e) in (has_later y x ys r.0, r.1))
     (cases_Bool (p y))
 
-pub some_passes : {X : Type 0} (p : X → Bool) (xs : List X) (x : X) → Has xs x → p x ≡ true → (y : X) × (first_with p xs ≡ Some y)
+pub some_passes : {X : Type 0} (p : X → Bool) (xs : List X) (x : X) → ContainsAt xs x → p x ≡ true → (y : X) × (first_with p xs ≡ Some y)
 some_passes p [] x (k, h, at) e = absurd (omega arith)
 some_passes p (y ∷ ys) x (zero, h, at) e = (y, cond-true (p y) (Some y) (first_with p ys) (ap p (at x) ∙ e))
 some_passes p (y ∷ ys) x (suc k, h, at) e =
@@ -48,29 +48,29 @@ module _ {X : Type 0} (before : X → X → Bool) (strict : (x : X) → before x
   ahead_le : (xs : List X) (x y : X) → before x y ≡ true → ahead before x xs ≤ ahead before y xs
   ahead_le xs x y e = count_mono (λ z. before z x) (λ z. before z y) (λ z h. trans z x y h e) xs
 
-  ahead_less : (xs : List X) (x y : X) → Has xs x → before x y ≡ true → ahead before x xs < ahead before y xs
+  ahead_less : (xs : List X) (x y : X) → ContainsAt xs x → before x y ≡ true → ahead before x xs < ahead before y xs
   ahead_less xs x y (k, h, at) e =
       count_less (λ z. before z x) (λ z. before z y) (λ z b. trans z x y b e) xs k x h
       (ap (λ z. before z x) (at x) ∙ strict x) (ap (λ z. before z y) (at x) ∙ e)
 
   -- elements of one rank are not before one another
-  pub same_rank : (xs : List X) (x y : X) → Has xs x → ahead before x xs ≡ ahead before y xs → before x y ≡ false
+  pub same_rank : (xs : List X) (x y : X) → ContainsAt xs x → ahead before x xs ≡ ahead before y xs → before x y ≡ false
   same_rank xs x y h e = ⊎_elim (λ t. absurd (omega (arith, ahead_less xs x y h t))) (λ f. f) (cases_Bool (before x y))
 
   -- an element of the rest that keeps its count, since y does not go before it
-  lower : (y : X) (ys : List X) (r : ℕ) (x : X) → Has ys x → ahead before x ys ≡ r → r < ahead before y ys → ahead before x (y ∷ ys) ≡ r
+  lower : (y : X) (ys : List X) (r : ℕ) (x : X) → ContainsAt ys x → ahead before x ys ≡ r → r < ahead before y ys → ahead before x (y ∷ ys) ≡ r
   lower y ys r x h e low =
       ⊎_elim (λ t. absurd (omega (arith, ahead_le ys y x t)))
       (λ f. omega (arith, ahead_cons y ys x, cond-false {A = ℕ} (before y x) 1 0 f)) (cases_Bool (before y x))
 
   -- an element of the rest that y goes before
-  upper : (y : X) (ys : List X) (r : ℕ) (x : X) → Has ys x → (y ≡ x → ⊥) → ahead before x ys ≡ r → ahead before y ys ≤ r → ahead before x (y ∷ ys) ≡ r + 1
+  upper : (y : X) (ys : List X) (r : ℕ) (x : X) → ContainsAt ys x → (y ≡ x → ⊥) → ahead before x ys ≡ r → ahead before y ys ≤ r → ahead before x (y ∷ ys) ≡ r + 1
   upper y ys r x h ne e high =
       ⊎_elim (λ t. omega (arith, ahead_cons y ys x, cond-true {A = ℕ} (before y x) 1 0 t))
       (λ f. absurd (omega (arith, ahead_less ys x y h (decides x y (λ p. ne (sym p)) ∙ ap not f)))) (cases_Bool (before y x))
 
   -- the element that has r others before it
-  pub every_rank : (xs : List X) → Apart xs → (r : ℕ) → r < length xs → (x : X) × Has xs x × (ahead before x xs ≡ r)
+  pub every_rank : (xs : List X) → Apart xs → (r : ℕ) → r < length xs → (x : X) × ContainsAt xs x × (ahead before x xs ≡ r)
   every_rank [] a r h = absurd (omega arith)
   every_rank (y ∷ ys) a r h =
       ⊎_elim (λ e. (y, has_here y ys, omega (arith, ahead_cons y ys y, cond-false {A = ℕ} (before y y) 1 0 (strict y))))
@@ -91,7 +91,7 @@ module _ {X : Type 0} (before : X → X → Bool) (strict : (x : X) → before x
       some_passes (λ x. eqb (ahead before x xs + 1) rank) xs i.0 i.1 (eq-eqb (ahead before i.0 xs + 1) rank (omega (arith, i.2)))
 
   -- and no element of that rank is before it, or after it
-  pub tied_at_rank : (xs : List X) (rank : ℕ) (x y : X) → at_rank before xs rank ≡ Some x → Has xs y → ahead before y xs + 1 ≡ rank
+  pub tied_at_rank : (xs : List X) (rank : ℕ) (x y : X) → at_rank before xs rank ≡ Some x → ContainsAt xs y → ahead before y xs + 1 ≡ rank
       → (before x y ≡ false) × (before y x ≡ false)
   tied_at_rank xs rank x y e h r =
       let f = first_passes (λ z. eqb (ahead before z xs + 1) rank) xs x e in

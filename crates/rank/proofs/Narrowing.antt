@@ -1,6 +1,6 @@
 -- What narrowing rests on: counts that grow with the list and fall as it narrows, and ranks that grow along the order. Assumes nothing.
 use Rattle.std.proofs.Common.{◌≡◌, ℕ, zero, suc, ◌+◌, ◌<◌, ◌≤◌, Bool, true, false, cond, not, List, [], ◌∷◌, length, get_or, take, Some, None, count_by, Option, sym, refl, ap, ◌∙◌, subst, ⊎_elim, arith}
-use Rattle.std.specs.List.{AllByRecursion as All}
+use Rattle.std.specs.List.{AllByRecursion}
 use Rattle.std.proofs.lemmas.List.Sums.{sum_by-cons, count_by_more_yes, count_by_more_no}
 use Rattle.std.proofs.ByRecursion.{All-weaker}
 use Rattle.std.proofs.lemmas.Bool.{both_ways, cases_Bool, and_parts, and_from, and_cases, and_left, and_right, cond-true, cond-false}
@@ -20,7 +20,7 @@ module _ {X : Type 0} (p q : X → Bool) where
   count_less f (x ∷ xs) zero d h a b = omega (arith, sum_by-cons (λ y. cond (p y) 1 0) x xs, sum_by-cons (λ y. cond (q y) 1 0) x xs, cond-false {A = ℕ} (p x) 1 0 a, cond-true {A = ℕ} (q x) 1 0 b, count_mono f xs)
   count_less f (x ∷ xs) (suc i) d h a b = omega (arith, sum_by-cons (λ y. cond (p y) 1 0) x xs, sum_by-cons (λ y. cond (q y) 1 0) x xs, one_le x (f x), count_less f xs i d (omega arith) a b)
 
-pub count_none : {X : Type 0} (p : X → Bool) (xs : List X) → count_by p xs ≡ 0 → All (λ x. p x ≡ false) xs
+pub count_none : {X : Type 0} (p : X → Bool) (xs : List X) → count_by p xs ≡ 0 → AllByRecursion (λ x. p x ≡ false) xs
 count_none p [] e = tt
 count_none p (x ∷ xs) e = (
   ⊎_elim (λ t. absurd (omega (arith, sum_by-cons (λ y. cond (p y) 1 0) x xs, cond-true {A = ℕ} (p x) 1 0 t))) (λ f. f) (cases_Bool (p x)),
@@ -37,7 +37,7 @@ TooHigh before xs rank None = Unit {0}
 TooHigh before xs rank (Some h) = rank < ahead before h xs + 1
 
 -- no element has rank 0
-pub none_of_zero : {X : Type 0} (before : X → X → Bool) (ys xs : List X) (rank : ℕ) → rank ≡ 0 → All (λ x. Ranked before ys rank x → ⊥) xs
+pub none_of_zero : {X : Type 0} (before : X → X → Bool) (ys xs : List X) (rank : ℕ) → rank ≡ 0 → AllByRecursion (λ x. Ranked before ys rank x → ⊥) xs
 none_of_zero before ys [] rank z = tt
 none_of_zero before ys (x ∷ xs) rank z = ((λ e. omega arith), none_of_zero before ys xs rank z)
 
@@ -61,7 +61,7 @@ module _ {X : Type 0} (before : X → X → Bool) (strict : (x : X) → before x
   not_high xs rank (Some h) x t e r = omega (arith, ahead_le xs x h e)
 
   pub none_between : (xs : List X) (rank : ℕ) (low high : Option X) (ys : List X) → TooLow before xs rank low → TooHigh before xs rank high
-      → All (λ x. between before low high x ≡ false) ys → All (λ x. Ranked before xs rank x → ⊥) ys
+      → AllByRecursion (λ x. between before low high x ≡ false) ys → AllByRecursion (λ x. Ranked before xs rank x → ⊥) ys
   none_between xs rank low high ys l h all =
       All-weaker (λ x. between before low high x ≡ false) (λ x. Ranked before xs rank x → ⊥)
       (λ x e. ⊎_elim (not_low xs rank low x l) (not_high xs rank high x h) (and_cases (over before low x) (under before high x) e)) ys all

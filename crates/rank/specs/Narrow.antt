@@ -2,7 +2,7 @@
 --   between before low high x      x goes after low and before high
 --   Between before low high xs r   r is the place of an element between the two, or none where there is none
 use Rattle.std.specs.Prelude.{◌≡◌, ℕ, ◌<◌, Bool, true, false, ◌&&◌, List, length, Some, None, Option}
-use Rattle.std.specs.List.{HoldsAt, AllByRecursion as All}
+use Rattle.std.specs.List.{HoldsAt, AllByRecursion}
 
 abbrev pub over : {X : Type 0} → (X → X → Bool) → Option X → X → Bool
 over before None x = true
@@ -16,5 +16,5 @@ abbrev pub between : {X : Type 0} → (X → X → Bool) → Option X → Option
 between before low high x = over before low x && under before high x
 
 abbrev pub Between : {X : Type 0} → (X → X → Bool) → Option X → Option X → List X → Option ℕ → Type 0
-Between before low high xs None = All (λ x. between before low high x ≡ false) xs
+Between before low high xs None = AllByRecursion (λ x. between before low high x ≡ false) xs
 Between before low high xs (Some k) = (k < length xs) × HoldsAt (λ x. between before low high x ≡ true) xs k

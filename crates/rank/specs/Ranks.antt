@@ -5,7 +5,7 @@
 --   at_rank before xs rank     the first element of the list that has the rank, or none
 --   Apart xs                   no two elements of the list are the same
 use Rattle.std.specs.Prelude.{◌≡◌, ℕ, ◌+◌, Bool, cond, List, [], ◌∷◌, Some, None, count_by, Option, ◌≢◌, nat_eq}
-use Rattle.std.specs.List.{ContainsAt as Has, AllByRecursion as All}
+use Rattle.std.specs.List.{ContainsAt, AllByRecursion}
 
 abbrev pub ahead : {X : Type 0} → (X → X → Bool) → X → List X → ℕ
 ahead before x xs = count_by (λ y. before y x) xs
@@ -14,8 +14,8 @@ abbrev pub Ranked : {X : Type 0} → (X → X → Bool) → List X → ℕ → X
 Ranked before xs rank x = ahead before x xs + 1 ≡ rank
 
 abbrev pub Picked : {X : Type 0} → (X → X → Bool) → List X → ℕ → Option X → Type 0
-Picked before xs rank (Some x) = Has xs x × Ranked before xs rank x
-Picked before xs rank None = All (λ x. Ranked before xs rank x → ⊥) xs
+Picked before xs rank (Some x) = ContainsAt xs x × Ranked before xs rank x
+Picked before xs rank None = AllByRecursion (λ x. Ranked before xs rank x → ⊥) xs
 
 abbrev pub first_with : {X : Type 0} → (X → Bool) → List X → Option X
 first_with passes [] = None
@@ -26,4 +26,4 @@ at_rank before xs rank = first_with (λ x. nat_eq (ahead before x xs + 1) rank) 
 
 abbrev pub Apart : {X : Type 0} → List X → Type 0
 Apart [] = Unit {0}
-Apart (x ∷ xs) = All (λ y. x ≢ y) xs × Apart xs
+Apart (x ∷ xs) = AllByRecursion (λ y. x ≢ y) xs × Apart xs

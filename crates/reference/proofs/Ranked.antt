@@ -1,6 +1,6 @@
 -- Among spreads of different hours one has the percentile's rank, and all that have it have one value. Assumes nothing.
 use Rattle.std.proofs.Common.{◌≡◌, ℕ, zero, suc, ◌+◌, ◌-◌, ◌<◌, ◌≤◌, List, length, ℤ, pos, ◌≤ℤ◌, Some, None, sym, refl, ap, ◌∙◌, arith}
-use Rattle.std.specs.List.{AllByRecursion as All}
+use Rattle.std.specs.List.{AllByRecursion}
 use Rattle.std.proofs.ByRecursion.{All-push, All-weaker, all-has}
 use Rattle.std.proofs.lemmas.List.{length_push}
 use Rattle.std.proofs.lemmas.Int.{ints}
@@ -14,7 +14,7 @@ use Rattle.reference.specs.Percentile.{percentile_rank}
 use Rattle.reference.specs.Spreads.{dated_spread, spreads_to, value_in}
 
 module _ (side : Side) (ts ds : List ℤ) where
-  hours_to : (n : ℕ) → All (λ s. s.hour ≤ℤ pos n) (spreads_to side ts ds n)
+  hours_to : (n : ℕ) → AllByRecursion (λ s. s.hour ≤ℤ pos n) (spreads_to side ts ds n)
   hours_to zero = tt
   hours_to (suc n) =
       All-push (λ s. s.hour ≤ℤ pos (suc n)) (spreads_to side ts ds n) (dated_spread side ts ds n)

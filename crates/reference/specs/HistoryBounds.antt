@@ -3,7 +3,7 @@
 --   history_priced    what a history answers is within bounds
 use Rattle.std.specs.Prelude.{ℕ, zero, suc, ◌+◌, ◌-◌, ◌*◌, ◌<◌, Bool, List, [], ◌∷◌, length, take, drop, ℤ, pos, negsuc, Some, ◌==◌, unsigned_abs}
 use Rattle.std.proofs.Common.{sym, subst, ◌∙◌, ⊎_elim, arith}
-use Rattle.std.specs.List.{AllByRecursion as All}
+use Rattle.std.specs.List.{AllByRecursion}
 use Rattle.std.proofs.ByRecursion.{All-push}
 use Rattle.std.proofs.lemmas.List.{length-take, get_or-take, get_or-drop, get_or_past}
 use Rattle.std.proofs.lemmas.Int.{ints}
@@ -30,7 +30,7 @@ spread_bounded : (side : Side) (t d : ℤ) → Bounded (negsuc 11999999) (pos 12
 spread_bounded Supply t d a b = (omega (arith, ints), omega (arith, ints))
 spread_bounded Demand t d a b = (omega (arith, ints), omega (arith, ints))
 
-spreads_bounded : (side : Side) (ts ds : List ℤ) → EachAverage ts → EachPrice ds → (n : ℕ) → All (λ s. Reference s.value) (spreads_to side ts ds n)
+spreads_bounded : (side : Side) (ts ds : List ℤ) → EachAverage ts → EachPrice ds → (n : ℕ) → AllByRecursion (λ s. Reference s.value) (spreads_to side ts ds n)
 spreads_bounded side ts ds a b zero = tt
 spreads_bounded side ts ds a b (suc n) =
     All-push (λ s. Reference s.value) (spreads_to side ts ds n) (dated_spread side ts ds n) (spreads_bounded side ts ds a b n) (spread_bounded side (num ts n) (num ds n) (a n) (b n))
@@ -38,7 +38,7 @@ spreads_bounded side ts ds a b (suc n) =
 zero_reference : Reference (pos 0)
 zero_reference = (omega (arith, ints), omega (arith, ints))
 
-first_bounded : (p : DatedSpread → Bool) (xs : List DatedSpread) → All (λ s. Reference s.value) xs → Reference (value_in (first_with p xs))
+first_bounded : (p : DatedSpread → Bool) (xs : List DatedSpread) → AllByRecursion (λ s. Reference s.value) xs → Reference (value_in (first_with p xs))
 first_bounded p [] all = zero_reference
 first_bounded p (x ∷ xs) all = cond_both (p x) (Some x) (first_with p xs) (λ o. Reference (value_in o)) (λ _. all.0) (λ _. first_bounded p xs all.1)
 
