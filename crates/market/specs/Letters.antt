@@ -1,8 +1,10 @@
 -- The letter of each side, class, period and layer. Assumes nothing.
 --   side_letter s, class_letter c, period_letter p, layer_letter l  the code of its letter
 --   Named letter_of letter r  r is the case whose letter that is, or none where no case has it
+--   Reads letter_of named letter r  r has the case that is named so, and only that; of no case it has the letter back
 --   side_named c, class_named c, period_named c, layer_named c  the case that the letter of code c names, or none
-use Rattle.std.specs.Prelude.{◌≡◌, ℕ, cond, Some, None, Option, ◌==◌, ◌≢◌}
+use Rattle.std.specs.Prelude.{◌≡◌, ℕ, cond, Some, None, Option, Result, IfErr, ◌==◌, ◌≢◌}
+use Rattle.std.specs.Result.{result_ok}
 use Rattle.market.specs.declared.words.Side.{Side}
 use Rattle.market.specs.declared.words.Side.TheVariants.{Supply, Demand}
 use Rattle.market.specs.declared.words.Class.{Class}
@@ -11,6 +13,7 @@ use Rattle.market.specs.declared.words.Period.{Period}
 use Rattle.market.specs.declared.words.Period.TheVariants.{Peak, OffPeak}
 use Rattle.market.specs.declared.words.Layer.{Layer}
 use Rattle.market.specs.declared.words.Layer.TheVariants.{Book, Policy, RealTime}
+use Rattle.market.specs.declared.words.UnknownLetter.{UnknownLetter}
 
 -- S and D
 abbrev pub side_letter : Side → ℕ
@@ -39,6 +42,11 @@ layer_letter RealTime = 82
 abbrev pub Named : {X : Type 0} → (X → ℕ) → ℕ → Option X → Type 0
 Named letter_of letter (Some x) = letter_of x ≡ letter
 Named {X = X} letter_of letter None = (x : X) → letter_of x ≢ letter
+
+pub record Reads {X : Type 0} (letter_of : X → ℕ) (named : ℕ → Option X) (letter : ℕ) (r : Result X UnknownLetter) : Type 0 where
+  pub its_case : Named letter_of letter (result_ok r)
+  pub value : result_ok r ≡ named letter
+  pub unknown : IfErr r (λ e. e.0 ≡ letter)
 
 abbrev pub side_named : ℕ → Option Side
 side_named c = cond (c == side_letter Supply) (Some Supply) (cond (c == side_letter Demand) (Some Demand) None)

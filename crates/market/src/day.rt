@@ -6,7 +6,7 @@ pub mod check;
 use crate::bounds::Hour;
 
 /// A Trading Day of 23, 24 or 25 hours, in a month counted from the one in which the provision took effect.
-#[derive(Clone, Copy)]
+#[derive(Clone, Copy, Debug, PartialEq, Eq)]
 pub struct Day {
     hours: Hour,
     month: i64,

@@ -8,49 +8,44 @@ use crate::bounds::Number;
 use crate::words::Layer;
 
 /// Why a policy has no price or a source no average.
-#[derive(Clone, Copy)]
+#[derive(Clone, Copy, Debug, PartialEq, Eq)]
 pub enum Cause {
-    Outside,
-    Missing,
+    Outside = 1,
+    Missing = 2,
 }
 
+// The two faults below have the same fields and stay two types: by the type, `From` knows which layer refuses.
+
 /// Why a policy has no price, and for which location.
-#[derive(Clone, Copy)]
+#[derive(Clone, Copy, Debug, PartialEq, Eq)]
 pub struct PolicyFault {
     pub cause: Cause,
     pub location: Number,
 }
 
 /// Why a source has no average, and for which location.
-#[derive(Clone, Copy)]
+#[derive(Clone, Copy, Debug, PartialEq, Eq)]
 pub struct SourceFault {
     pub cause: Cause,
     pub location: Number,
 }
 
-/// A policy's fault beside the location that was asked for.
-#[derive(Clone, Copy)]
-pub struct Unpriced {
+/// The fault of a layer below beside the location that was asked for.
+#[derive(Clone, Copy, Debug, PartialEq, Eq)]
+pub struct Asked<F> {
     pub asked: Number,
-    pub fault: PolicyFault,
-}
-
-/// A source's fault beside the location that was asked for.
-#[derive(Clone, Copy)]
-pub struct Unaveraged {
-    pub asked: Number,
-    pub fault: SourceFault,
+    pub fault: F,
 }
 
 /// Why a call, a check or a reading refuses.
-#[derive(Clone, Copy)]
+#[derive(Clone, Copy, Debug, PartialEq, Eq)]
 pub enum Fault {
     BadArgument { layer: Layer, place: i64 },
     Unknown(Number),
     NotStanding(Number),
     WrongStage(i64),
     NoPlaceFree(i64),
-    NoPrice(Unpriced),
+    NoPrice(Asked<PolicyFault>),
     OverCredit(Number),
     BadCurve(i64),
     OverHeld(i64),
@@ -58,7 +53,7 @@ pub enum Fault {
     PathUnrated(Number),
     OverPosition(Number),
     HoldStands(Number),
-    NoAverage(Unaveraged),
+    NoAverage(Asked<SourceFault>),
     AlreadyAdjusted(i64),
 }
 
@@ -67,25 +62,22 @@ impl Cause {
     pub fn number(self) -> u8
         ensures { result ≡ cause_number self }
     {
-        match self {
-            Cause::Outside => 1,
-            Cause::Missing => 2,
-        }
+        self as u8
     }
 }
 
-impl From<Unpriced> for Fault {
+impl From<Asked<PolicyFault>> for Fault {
     ghost from_gives = { λ u r. r ≡ NoPrice u };
 
-    fn from(found: Unpriced) -> Fault {
+    fn from(found: Asked<PolicyFault>) -> Fault {
         Fault::NoPrice(found)
     }
 }
 
-impl From<Unaveraged> for Fault {
+impl From<Asked<SourceFault>> for Fault {
     ghost from_gives = { λ u r. r ≡ NoAverage u };
 
-    fn from(found: Unaveraged) -> Fault {
+    fn from(found: Asked<SourceFault>) -> Fault {
         Fault::NoAverage(found)
     }
 }
@@ -120,8 +112,8 @@ impl Fault {
     {
         match self {
             Fault::BadArgument { place, .. } => *place,
-            Fault::NoPrice(unpriced) => unpriced.asked,
-            Fault::NoAverage(unaveraged) => unaveraged.asked,
+            Fault::NoPrice(below) => below.asked,
+            Fault::NoAverage(below) => below.asked,
             Fault::Unknown(place)
             | Fault::NotStanding(place)
             | Fault::WrongStage(place)

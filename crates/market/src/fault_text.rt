@@ -1,15 +1,16 @@
-// Refusals as text: a layer's letter, a number, a place; and faults below the book.
+// Refusals as text: a layer's letter, a number, a place; and faults below the book. They are errors of Rust's kind.
 ghost use Rattle.std.specs.Prelude.{Some};
 ghost use Rattle.market.specs.Texts.{fault_text, policy_fault_text, source_fault_text};
 
 use crate::fault::{Fault, PolicyFault, SourceFault};
+use std::error::Error;
 use std::fmt;
 
 impl fmt::Display for Fault {
     ghost output = { λ f. Some (fault_text f) };
 
     fn fmt<W: fmt::Write>(&self, f: &mut fmt::Formatter<W>) -> fmt::Result {
-        let layer = self.layer().letter();
+        let layer = char::from(self.layer());
         let number = self.number();
         let place = self.place();
         write!(f, "{layer} {number} {place}")
@@ -35,3 +36,9 @@ impl fmt::Display for SourceFault {
         write!(f, "cause {cause} at location {location}")
     }
 }
+
+impl Error for Fault {}
+
+impl Error for PolicyFault {}
+
+impl Error for SourceFault {}

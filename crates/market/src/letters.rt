@@ -1,54 +1,60 @@
 // Letters in and out: each kind has one letter for each of its cases.
 ghost use Rattle.std.specs.Prelude.{◌≡◌};
-ghost use Rattle.market.specs.Letters.{Named, side_letter, class_letter, period_letter, layer_letter, side_named, class_named, period_named, layer_named};
+ghost use Rattle.market.specs.Letters.{Reads, side_letter, class_letter, period_letter, layer_letter, side_named, class_named, period_named, layer_named};
 
-use crate::words::{Class, Layer, Period, Side};
+use crate::words::{Class, Layer, Period, Side, UnknownLetter};
 
-impl Side {
+impl TryFrom<char> for Side {
+    type Error = UnknownLetter;
+
+    ghost try_from_gives = { Reads side_letter side_named };
+
     /// The side that a letter names.
-    pub fn from_letter(letter: char) -> Option<Side>
-        ensures its_case { Named side_letter letter result }
-        ensures value { result ≡ side_named letter }
-    {
+    fn try_from(letter: char) -> Result<Side, UnknownLetter> {
         match letter {
-            'S' => Some(Side::Supply),
-            'D' => Some(Side::Demand),
-            _ => None,
+            'S' => Ok(Side::Supply),
+            'D' => Ok(Side::Demand),
+            _ => Err(UnknownLetter(letter)),
         }
     }
+}
+
+impl From<Side> for char {
+    ghost from_gives = { λ side letter. letter ≡ side_letter side };
 
     /// The letter of a side.
-    pub fn letter(self) -> char
-        ensures { result ≡ side_letter self }
-    {
-        match self {
+    fn from(side: Side) -> char {
+        match side {
             Side::Supply => 'S',
             Side::Demand => 'D',
         }
     }
 }
 
-impl Class {
+impl TryFrom<char> for Class {
+    type Error = UnknownLetter;
+
+    ghost try_from_gives = { Reads class_letter class_named };
+
     /// The class that a letter names.
-    pub fn from_letter(letter: char) -> Option<Class>
-        ensures its_case { Named class_letter letter result }
-        ensures value { result ≡ class_named letter }
-    {
+    fn try_from(letter: char) -> Result<Class, UnknownLetter> {
         match letter {
-            'N' => Some(Class::Node),
-            'A' => Some(Class::Aggregate),
-            'L' => Some(Class::LoadPoint),
-            'T' => Some(Class::Hub),
-            'I' => Some(Class::Intertie),
-            _ => None,
+            'N' => Ok(Class::Node),
+            'A' => Ok(Class::Aggregate),
+            'L' => Ok(Class::LoadPoint),
+            'T' => Ok(Class::Hub),
+            'I' => Ok(Class::Intertie),
+            _ => Err(UnknownLetter(letter)),
         }
     }
+}
+
+impl From<Class> for char {
+    ghost from_gives = { λ class letter. letter ≡ class_letter class };
 
     /// The letter of a class.
-    pub fn letter(self) -> char
-        ensures { result ≡ class_letter self }
-    {
-        match self {
+    fn from(class: Class) -> char {
+        match class {
             Class::Node => 'N',
             Class::Aggregate => 'A',
             Class::LoadPoint => 'L',
@@ -58,49 +64,55 @@ impl Class {
     }
 }
 
-impl Period {
+impl TryFrom<char> for Period {
+    type Error = UnknownLetter;
+
+    ghost try_from_gives = { Reads period_letter period_named };
+
     /// The period that a letter names.
-    pub fn from_letter(letter: char) -> Option<Period>
-        ensures its_case { Named period_letter letter result }
-        ensures value { result ≡ period_named letter }
-    {
+    fn try_from(letter: char) -> Result<Period, UnknownLetter> {
         match letter {
-            'P' => Some(Period::Peak),
-            'O' => Some(Period::OffPeak),
-            _ => None,
+            'P' => Ok(Period::Peak),
+            'O' => Ok(Period::OffPeak),
+            _ => Err(UnknownLetter(letter)),
         }
     }
+}
+
+impl From<Period> for char {
+    ghost from_gives = { λ period letter. letter ≡ period_letter period };
 
     /// The letter of a period.
-    pub fn letter(self) -> char
-        ensures { result ≡ period_letter self }
-    {
-        match self {
+    fn from(period: Period) -> char {
+        match period {
             Period::Peak => 'P',
             Period::OffPeak => 'O',
         }
     }
 }
 
-impl Layer {
+impl TryFrom<char> for Layer {
+    type Error = UnknownLetter;
+
+    ghost try_from_gives = { Reads layer_letter layer_named };
+
     /// The layer that a letter names.
-    pub fn from_letter(letter: char) -> Option<Layer>
-        ensures its_case { Named layer_letter letter result }
-        ensures value { result ≡ layer_named letter }
-    {
+    fn try_from(letter: char) -> Result<Layer, UnknownLetter> {
         match letter {
-            'B' => Some(Layer::Book),
-            'P' => Some(Layer::Policy),
-            'R' => Some(Layer::RealTime),
-            _ => None,
+            'B' => Ok(Layer::Book),
+            'P' => Ok(Layer::Policy),
+            'R' => Ok(Layer::RealTime),
+            _ => Err(UnknownLetter(letter)),
         }
     }
+}
+
+impl From<Layer> for char {
+    ghost from_gives = { λ layer letter. letter ≡ layer_letter layer };
 
     /// The letter of a layer.
-    pub fn letter(self) -> char
-        ensures { result ≡ layer_letter self }
-    {
-        match self {
+    fn from(layer: Layer) -> char {
+        match layer {
             Layer::Book => 'B',
             Layer::Policy => 'P',
             Layer::RealTime => 'R',

@@ -7,4 +7,5 @@ pub mod fault;
 pub mod fault_text;
 pub mod letters;
 pub mod segment;
+pub mod word_text;
 pub mod words;

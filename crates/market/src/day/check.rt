@@ -12,13 +12,13 @@ impl Day {
     pub fn check(hours: i64, month: i64) -> Result<Day, Fault>
         ensures { DayChecked hours month result }
     {
-        if hours < SHORTEST_DAY || hours > LONGEST_DAY {
+        if !(SHORTEST_DAY..=LONGEST_DAY).contains(&hours) {
             return Err(Fault::BadArgument {
                 layer: Layer::Book,
                 place: 1,
             });
         }
-        if month < 0 || month > LAST_MONTH {
+        if !(0..=LAST_MONTH).contains(&month) {
             return Err(Fault::BadArgument {
                 layer: Layer::Book,
                 place: 2,
