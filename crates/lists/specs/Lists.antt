@@ -5,10 +5,10 @@
 --   second_from y xs                the index at which the second block begins
 --   whole_length y xs               how long the sizes say that the list is
 --   Fits y xs k                     the number at index k is within the bounds of its place
---   FirstOutside xs from to low high r   r is the first index from `from` and before `to` of a number out of bounds
+--   out_of low high z               the test whether z is below low or above high
 --   Passed y xs s                   a whole list, of these sizes
 --   SizesRefused y xs p, Refused y xs p  p is the place at which the sizes, or the list, are refused
-use Rattle.std.specs.Prelude.{◌≡◌, ℕ, ◌+◌, ◌*◌, ◌<◌, ◌≤◌, cond, ◌⊎◌, List, length, ℤ, pos, ◌≤ℤ◌, Some, None, Ok, Err, Option, Result, ◌==◌, ◌≢◌, nat_lt, slice_index_or, unsigned_abs}
+use Rattle.std.specs.Prelude.{◌≡◌, ℕ, ◌+◌, ◌*◌, ◌<◌, ◌≤◌, Bool, cond, not, ◌&&◌, ◌⊎◌, List, length, ℤ, pos, ◌≤ℤ◌, Ok, Err, Result, ◌==◌, ◌≢◌, int_le, nat_lt, slice_index_or, unsigned_abs}
 use Rattle.market.specs.declared.fault.Fault.{Fault}
 use Rattle.market.specs.declared.fault.Fault.TheVariants.{BadArgument}
 use Rattle.lists.specs.declared.layout.Layout.{Layout}
@@ -36,11 +36,8 @@ Fits y xs k =
     (cond (k == 0) (pos y.rows) (cond (k == 1) (pos y.columns) (cond (nat_lt k (second_from y xs)) y.first.high y.second.high)))
     (num xs k)
 
-abbrev pub FirstOutside : List ℤ → ℕ → ℕ → ℤ → ℤ → Option ℕ → Type 0
-FirstOutside xs from to low high None = (j : ℕ) → from ≤ j → j < to → j < length xs → Bounded low high (num xs j)
-FirstOutside xs from to low high (Some k) =
-    (from ≤ k) × (k < to) × (k < length xs) × (Bounded low high (num xs k) → ⊥)
-    × ((j : ℕ) → from ≤ j → j < k → Bounded low high (num xs j))
+abbrev pub out_of : ℤ → ℤ → ℤ → Bool
+out_of low high z = not (int_le low z && int_le z high)
 
 pub record Passed (y : Layout) (xs : List ℤ) (s : Sizes) : Type 0 where
   pub two : 2 ≤ length xs
@@ -69,15 +66,9 @@ Refused y xs p =
     ⊎ (Sized y xs × (length xs ≢ whole_length y xs) × (p ≡ length xs))
     ⊎ (Sized y xs × (length xs ≡ whole_length y xs) × (p < length xs) × (Fits y xs p → ⊥) × ((k : ℕ) → k < p → Fits y xs k))
 
--- the sizes that stand in front, or the place at which they are refused
-abbrev pub SizesRead : Layout → List ℤ → Result Sizes ℕ → Type 0
-SizesRead y xs (Ok s) = Sized y xs × (pos s.rows ≡ num xs 0) × (pos s.columns ≡ num xs 1)
-SizesRead y xs (Err p) = SizesRefused y xs p
-
--- the sizes of a whole list, or the place at which it is refused
-abbrev pub Looked : Layout → List ℤ → Result Sizes ℕ → Type 0
-Looked y xs (Ok s) = Passed y xs s
-Looked y xs (Err p) = Refused y xs p × (p ≤ length xs)
+-- the sizes that stand in front
+abbrev pub SizesRead : Layout → List ℤ → Sizes → Type 0
+SizesRead y xs s = Sized y xs × (pos s.rows ≡ num xs 0) × (pos s.columns ≡ num xs 1)
 
 -- refusal 1 of the layout's layer, at that place
 abbrev pub Checked : Layout → List ℤ → Result Sizes Fault → Type 0

@@ -1,91 +1,85 @@
 // The check of a list, one for every layout.
-ghost use Rattle.std.specs.Prelude.{◌≡◌, ◌*◌, ◌^◌, ◌<◌};
-ghost use Rattle.lists.specs.Lists.{FirstOutside, SizesRead, Looked, Checked};
+ghost use Rattle.std.specs.Prelude.{◌≡◌, ℕ, ◌*◌, ◌^◌, ◌<◌, pos, drop, IfOk, IfErr, position};
+ghost use Rattle.market.specs.declared.fault.Fault.TheVariants.{BadArgument};
+ghost use Rattle.lists.specs.Lists.{out_of, SizesRead, SizesRefused, Checked};
 
 use crate::layout::{Block, Layout, Sizes};
 use market::fault::Fault;
 
-/// The first index from `from` on, and before `to`, of a number below `low` or above `high`.
-fn first_outside(list: &[i32], from: usize, to: usize, low: i32, high: i32) -> Option<usize>
-    ensures { FirstOutside list.now from to low high result }
-{
-    let end = to.min(list.len());
-    for k in from..end {
-        let x = list[k];
-        if x < low || x > high {
-            return Some(k);
+impl Block {
+    /// Whether a number is below `low` or above `high`.
+    fn is_outside(&self, number: i32) -> bool
+        ensures { result ≡ out_of self.now.low self.now.high number }
+    {
+        !(self.low..=self.high).contains(&number)
+    }
+
+    /// The index of the first number below `low` or above `high`.
+    fn first_outside(&self, numbers: &[i32]) -> Option<usize>
+        ensures { result ≡ position (out_of self.now.low self.now.high) numbers.now }
+    {
+        numbers.iter().position(|number| self.is_outside(*number))
+    }
+
+    /// How many numbers it has in all cells.
+    fn length(&self, sizes: Sizes) -> usize
+        ensures value { result ≡ (sizes.rows * sizes.columns) * self.now.per_cell }
+        ensures bound { result < 2 ^ 32 }
+    {
+        sizes.cells() * usize::from(self.per_cell)
+    }
+}
+
+impl Layout {
+    /// Refusal 1 of the layer, at a place of the list.
+    fn refused_at(&self, place: usize) -> Fault
+        requires { place < 2 ^ 63 }
+        ensures { result ≡ BadArgument self.now.layer (pos place) }
+    {
+        Fault::BadArgument {
+            layer: self.layer,
+            place: place as i64,
         }
     }
-    None
-}
 
-/// The sizes in front, or the place of their refusal.
-fn read_sizes(list: &[i32], layout: &Layout) -> Result<Sizes, usize>
-    ensures { SizesRead layout.now list.now result }
-{
-    if list.len() < 2 {
-        return Err(list.len());
+    /// The sizes in front and the numbers behind them, or the refusal of the sizes.
+    fn read_sizes<'l>(&self, list: &'l [i32]) -> Result<(Sizes, &'l [i32]), Fault>
+        ensures read { IfOk result (λ r. SizesRead self.now list.now r.0) }
+        ensures rest { IfOk result (λ r. r.1.now ≡ drop 2 list.now) }
+        ensures refused { IfErr result (λ f. (p : ℕ) × SizesRefused self.now list.now p × (f ≡ BadArgument self.now.layer (pos p))) }
+    {
+        let [rows, columns, numbers @ ..] = list else {
+            return Err(self.refused_at(list.len()));
+        };
+        if *rows < 0 || i32::from(self.rows) < *rows {
+            return Err(self.refused_at(0));
+        }
+        if *columns < 0 || i32::from(self.columns) < *columns {
+            return Err(self.refused_at(1));
+        }
+        let sizes = Sizes {
+            rows: *rows as u8,
+            columns: *columns as u16,
+        };
+        Ok((sizes, numbers))
     }
-    let rows = list[0];
-    let columns = list[1];
-    if rows < 0 || rows > layout.rows as i32 {
-        return Err(0);
-    }
-    if columns < 0 || columns > layout.columns as i32 {
-        return Err(1);
-    }
-    Ok(Sizes {
-        rows: rows as u8,
-        columns: columns as u16,
-    })
-}
 
-/// Rows × columns.
-fn cells_of(sizes: Sizes) -> usize
-    ensures value { result ≡ sizes.rows * sizes.columns }
-    ensures bound { result < 2 ^ 24 }
-{
-    sizes.rows as usize * sizes.columns as usize
-}
-
-/// How many numbers a block has in so many cells.
-fn block_length(cells: usize, block: &Block) -> usize
-    requires { cells < 2 ^ 24 }
-    ensures value { result ≡ cells * block.now.per_cell }
-    ensures bound { result < 2 ^ 32 }
-{
-    cells * block.per_cell as usize
-}
-
-/// The sizes of a list that passes, or the place of its refusal.
-fn look(list: &[i32], layout: &Layout) -> Result<Sizes, usize>
-    ensures { Looked layout.now list.now result }
-{
-    let sizes = read_sizes(list, layout)?;
-    let cells = cells_of(sizes);
-    let second = 2 + block_length(cells, &layout.first);
-    let end = second + block_length(cells, &layout.second);
-    if list.len() != end {
-        return Err(list.len());
-    }
-    if let Some(k) = first_outside(list, 2, second, layout.first.low, layout.first.high) {
-        return Err(k);
-    }
-    if let Some(k) = first_outside(list, second, end, layout.second.low, layout.second.high) {
-        return Err(k);
-    }
-    Ok(sizes)
-}
-
-/// Checks a list: its sizes, or refusal 1 with the place of what is wrong.
-pub fn check(list: &[i32], layout: &Layout) -> Result<Sizes, Fault>
-    ensures { Checked layout.now list.now result }
-{
-    match look(list, layout) {
-        Ok(sizes) => Ok(sizes),
-        Err(place) => Err(Fault::BadArgument {
-            layer: layout.layer,
-            place: place as i64,
-        }),
+    /// Checks a list: its sizes, or refusal 1 with the place of what is wrong.
+    pub fn check(&self, list: &[i32]) -> Result<Sizes, Fault>
+        ensures { Checked self.now list.now result }
+    {
+        let (sizes, numbers) = self.read_sizes(list)?;
+        let begins = self.first.length(sizes);
+        if numbers.len() != begins + self.second.length(sizes) {
+            return Err(self.refused_at(list.len()));
+        }
+        let (first, second) = numbers.split_at(begins);
+        if let Some(index) = self.first.first_outside(first) {
+            return Err(self.refused_at(2 + index));
+        }
+        if let Some(index) = self.second.first_outside(second) {
+            return Err(self.refused_at(2 + begins + index));
+        }
+        Ok(sizes)
     }
 }

@@ -5,9 +5,6 @@ ghost use Rattle.lists.specs.Counted.{CountedFromOne};
 pub fn index_from_one(number: i64, count: usize) -> Option<usize>
     ensures { CountedFromOne count number result }
 {
-    if number < 1 {
-        return None;
-    }
-    let index = (number - 1) as usize;
+    let index = usize::try_from(number).ok()?.checked_sub(1)?;
     if index < count { Some(index) } else { None }
 }

@@ -1,0 +1,60 @@
+-- A number out of bounds in one of the blocks is the first of the list, since the sizes and what stands before it fit.
+use Rattle.std.proofs.Common.{◌≡◌, ◌+◌, length, take, drop, sym, ap, ◌∙◌, arith}
+use Rattle.std.specs.Prelude.{position}
+use Rattle.std.proofs.lemmas.List.{length-drop}
+use Rattle.lists.specs.Lists.{second_from, whole_length, out_of}
+use Rattle.lists.proofs.Blocks.{second_begins, list_ends, refused_in_first, refused_in_second, passed_both}
+use Rattle.lists.proofs.layout.Layout.check.Goals as goal
+use Rattle.lists.proofs.layout.Layout.check.Goals.{After-length}
+
+begins : (c : After-length) → 2 + c.length-begins.result ≡ second_from c.args.self.now c.args.list.now
+begins c =
+    let read = c.in_ok-sizes.ensures.read in
+    second_begins c.args.self.now c.args.list.now c.in_ok-sizes.sizes _ _ read.1 read.2 c.length-begins.ensures.value c.length.ensures.value
+
+whole : (c : After-length) → length c.in_ok-sizes.numbers.now ≡ c.length-begins.result + c.length.result → length c.args.list.now ≡ whole_length c.args.self.now c.args.list.now
+whole c e =
+    let read = c.in_ok-sizes.ensures.read in
+    omega (
+      arith,
+      list_ends c.args.self.now c.args.list.now c.in_ok-sizes.sizes _ _ read.1 read.2 c.length-begins.ensures.value c.length.ensures.value,
+      ap length c.in_ok-sizes.ensures.rest,
+      length-drop 2 c.args.list.now,
+      read.0.two,
+      e,
+    )
+
+pub returns-in-Some : goal.returns-in-Some
+returns-in-Some c =
+    let here = (goal.at.returns-in-Some c).After-length in
+    let y = c.args.self.now in
+    let first = c.split_at.ensures.front ∙ ap (take c.length-begins.result) c.in_ok-sizes.ensures.rest in (
+      2 + c.in-Some.index,
+      refused_in_first y c.args.list.now c.in_ok-sizes.ensures.read.0 c.length-begins.result (begins here) (whole here c.if-numbers-begins.false) c.in-Some.index
+          (ap (position (out_of y.first.low y.first.high)) (sym first) ∙ sym c.first_outside.ensures ∙ c.in-Some.is),
+      c.refused_at-in-Some.ensures,
+    )
+
+pub returns-in-Some-first_outside : goal.returns-in-Some-first_outside
+returns-in-Some-first_outside c =
+    let here = (goal.at.returns-in-Some-first_outside c).After-length in
+    let y = c.args.self.now in
+    let first = c.split_at.ensures.front ∙ ap (take c.length-begins.result) c.in_ok-sizes.ensures.rest in
+    let second = c.split_at.ensures.back ∙ ap (drop c.length-begins.result) c.in_ok-sizes.ensures.rest in (
+      2 + c.length-begins.result + c.in-Some-first_outside.index,
+      refused_in_second y c.args.list.now c.in_ok-sizes.ensures.read.0 c.length-begins.result (begins here) (whole here c.if-numbers-begins.false)
+          (ap (position (out_of y.first.low y.first.high)) (sym first) ∙ sym c.first_outside.ensures ∙ c.in_default.is) c.in-Some-first_outside.index
+          (ap (position (out_of y.second.low y.second.high)) (sym second) ∙ sym c.first_outside-2.ensures ∙ c.in-Some-first_outside.is),
+      c.refused_at-in-Some-first_outside.ensures,
+    )
+
+pub returns : goal.returns
+returns c =
+    let here = (goal.at.returns c).After-length in
+    let y = c.args.self.now in
+    let read = c.in_ok-sizes.ensures.read in
+    let first = c.split_at.ensures.front ∙ ap (take c.length-begins.result) c.in_ok-sizes.ensures.rest in
+    let second = c.split_at.ensures.back ∙ ap (drop c.length-begins.result) c.in_ok-sizes.ensures.rest in
+    passed_both y c.args.list.now read.0 c.length-begins.result (begins here) (whole here c.if-numbers-begins.false)
+    (ap (position (out_of y.first.low y.first.high)) (sym first) ∙ sym c.first_outside.ensures ∙ c.in_default.is) c.in_ok-sizes.sizes read.1 read.2
+    (ap (position (out_of y.second.low y.second.high)) (sym second) ∙ sym c.first_outside-2.ensures ∙ c.in_default-first_outside.is)
