@@ -1,24 +1,19 @@
 -- How the list that a feed lies over is read: a list that passed is as long as its sizes say and holds prices behind its marks. Assumes nothing.
-use Rattle.std.proofs.Common.{◌≡◌, ℕ, ◌+◌, ◌-◌, ◌*◌, ◌<◌, ◌≤◌, Bool, true, false, not, List, length, ℤ, pos, nat_abs, Some, Ok, sym, refl, ap, ◌∙◌, subst, inl, inr, ⊎_elim, mul_comm, add-mul, mul-one, arith}
+use Rattle.std.proofs.Common.{◌≡◌, ℕ, ◌+◌, ◌-◌, ◌*◌, ◌<◌, ◌≤◌, Bool, true, false, not, List, length, ℤ, pos, nat_abs, Some, Ok, Err, Result, sym, ap, ◌∙◌, subst, ◌⊎◌, inl, inr, ⊎_elim, add-mul, mul-one, arith}
 use lib.Signed.{le_z}
-use Rattle.std.proofs.lemmas.Nat.{mul-le, mul-add-lt}
+use Rattle.std.proofs.lemmas.Nat.{mul-le}
 use Rattle.std.proofs.lemmas.Int.{ints}
 use Rattle.std.proofs.lemmas.Bool.{and_parts, and_from, and_left, and_right, cases_Bool, cond-true, cond-false}
 use Rattle.market.specs.declared.fault.Cause.TheVariants.{Outside}
 use Rattle.lists.specs.declared.layout.Sizes.{Sizes}
-use Rattle.lists.specs.Counted.{is_among, CountedFromOne}
-use Rattle.lists.specs.Lists.{num, cells, Passed, Refused}
+use Rattle.lists.specs.Counted.{is_among}
+use Rattle.std.specs.Result.{ResultUnwrapsOrElse}
+use Rattle.market.specs.declared.fault.Fault.{Fault}
+use Rattle.lists.specs.Lists.{num, cells, Passed, Refused, Checked}
 use Rattle.lists.proofs.Blocks.{second_fits}
-use Rattle.realtime.specs.Feeds.{feed_layout, outside, cell, CellAmong, is_one, published, average, faulty, feed_meaning, Stands, Priced}
+use Rattle.lists.specs.Cells.{outside, cell, CellAmong}
+use Rattle.realtime.specs.Feeds.{feed_layout, is_one, published, average, faulty, feed_meaning, Stands, Priced}
 use Rattle.realtime.specs.Laws.{Whole, Opened, Among, ReadsAs, mark}
-
--- a row and a column make a cell
-pub cell_among : (m n row column : ℕ) (l h : ℤ) → CountedFromOne m l (Some row) → CountedFromOne n h (Some column) → CellAmong m n l h (Some (row * n + column))
-cell_among m n row column l h (a, p, i) (b, q, j) =
-    (ap not (and_from (is_among m l) (is_among n h) a b), cc, omega (arith, mul-add-lt row n column m i j, mul_comm m n))
-
-pub stands_as_counted : (per : ℕ) (xs : List ℤ) (all counted : ℕ) → counted ≡ all → Stands per xs all → Stands per xs counted
-stands_as_counted per xs all counted e stands = subst (Stands per xs) (sym e) stands
 
 -- the prices of a cell end within the list
 pub cell_ends : (per : ℕ) (xs : List ℤ) (all c : ℕ) → Stands per xs all → c < all → 2 + all + c * per + per ≤ length xs
@@ -27,9 +22,9 @@ cell_ends per xs all c stands h =
     omega (arith, mul-le (c + 1) per all per (omega arith) (omega arith), add-mul c 1 per)
 
 -- what a feed answers of a published cell
-pub published_meaning : (per : ℕ) (xs : List ℤ) (m n : ℕ) (l h : ℤ) (all c : ℕ) (t : ℤ) → CellAmong m n l h (Some c) → published xs c ≡ true → all ≡ m * n → t ≡ average per xs all c → Ok t ≡ feed_meaning per xs m n l h
-published_meaning per xs m n l h all c t (inside, e, k) p all-is t-is =
-    ap Ok (t-is ∙ ap (λ a. average per xs a c) all-is ∙ ap (average per xs (m * n)) e)
+pub published_meaning : (per : ℕ) (xs : List ℤ) (m n : ℕ) (l h : ℤ) (c : ℕ) (t : ℤ) → CellAmong m n l h (Some c) → published xs c ≡ true → t ≡ average per xs (m * n) c → Ok t ≡ feed_meaning per xs m n l h
+published_meaning per xs m n l h c t (inside, e, k) p t-is =
+    ap Ok (t-is ∙ ap (average per xs (m * n)) e)
     ∙ sym (cond-false (outside m n l h) _ _ inside ∙ cond-true (published xs (cell n l h)) _ _ (subst (λ k. published xs k ≡ true) e p))
 
 -- no list both passes and is refused
@@ -77,12 +72,6 @@ none_outside per xs l h =
     cond-true (outside 0 0 l h) _ _ (ap not (and_left (is_among 0 l) (is_among 0 h) (not_among 0 l (λ a. omega (arith, ints, a.0, a.1)))))
 
 module _ (per : ℕ) (xs : List ℤ) (never : Whole per xs → ⊥) where
-  pub refused_opened : Opened per xs 0 0
-  refused_opened = record {
-    of_whole = λ w. absurd (never w);
-    of_other = λ _. (refl, refl);
-  }
-
   pub refused_reads : ReadsAs per xs (feed_meaning per xs 0 0)
   refused_reads = record {
     location_outside = λ l h w _. none_outside per xs l h;
@@ -114,3 +103,29 @@ module _ (per : ℕ) (xs : List ℤ) (m n : ℕ) (r : num xs 0 ≡ pos m) (c : n
         ∙ sym (ap (λ k. Ok (average per xs (k * nat_abs (num xs 1)) (cell (nat_abs (num xs 1)) l h))) (ap nat_abs r) ∙ ap (λ k. Ok (average per xs (m * k) (cell k l h))) (ap nat_abs c));
     not_whole = λ l h never. absurd (never whole);
   }
+
+-- sizes are those of a list that passed, or none of both
+abbrev pub Either : ℕ → List ℤ → Sizes → Type 0
+Either per xs s = Passed (feed_layout per) xs s ⊎ ((Whole per xs → ⊥) × (s.rows ≡ 0) × (s.columns ≡ 0))
+
+module _ (per : ℕ) (xs : List ℤ) (s : Sizes) where
+  pub either : (none : Sizes → Type 0) → (none s → (s.rows ≡ 0) × (s.columns ≡ 0)) → (r : Result Sizes Fault) → Checked (feed_layout per) xs r → ResultUnwrapsOrElse r none s → Either per xs s
+  either none zeros (Ok t) passed same = inl (subst (Passed (feed_layout per) xs) (sym same) passed)
+  either none zeros (Err f) (p, refused, said) is = inr (refused_not_whole per xs p refused, (zeros is).0, (zeros is).1)
+
+  pub either_stands : Either per xs s → Stands per xs (s.rows * s.columns)
+  either_stands (inl passed) = passed_stands per xs s passed
+  either_stands (inr (never, rows, columns)) = λ k h. absurd (omega (arith, rw rows at h))
+
+  pub either_priced : Either per xs s → Priced per xs (s.rows * s.columns)
+  either_priced (inl passed) = passed_priced per xs s passed
+  either_priced (inr (never, rows, columns)) = λ k h. absurd (omega (arith, rw rows at h))
+
+  pub either_opened : Either per xs s → Opened per xs s.rows s.columns
+  either_opened (inl passed) = passed_opened per xs s passed
+  either_opened (inr (never, rows, columns)) = record { of_whole = λ w. absurd (never w); of_other = λ _. (rows, columns) }
+
+  pub either_reads : Either per xs s → ReadsAs per xs (feed_meaning per xs s.rows s.columns)
+  either_reads (inl passed) = whole_reads per xs s.rows s.columns (sym passed.rows) (sym passed.columns) (s, passed)
+  either_reads (inr (never, rows, columns)) =
+      subst (λ m. ReadsAs per xs (feed_meaning per xs m s.columns)) (sym rows) (subst (λ n. ReadsAs per xs (feed_meaning per xs 0 n)) (sym columns) (refused_reads per xs never))

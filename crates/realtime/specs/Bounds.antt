@@ -9,7 +9,8 @@ use Rattle.std.proofs.lemmas.Bool.{leb-true, and_parts, not-false, cond_both, tr
 use Rattle.lists.specs.Counted.{is_among}
 use Rattle.lists.specs.Lists.{Bounded}
 use Rattle.realtime.specs.Sources.{Averaged}
-use Rattle.realtime.specs.Feeds.{outside, cell, published, price, summed, weight, average, feed_meaning, Priced}
+use Rattle.lists.specs.Cells.{outside, cell}
+use Rattle.realtime.specs.Feeds.{published, price, summed, weight, average, feed_meaning, Priced}
 
 -- a number that is one of so many has an index among them
 pub within_size : (size : ℕ) (n : ℤ) → is_among size n ≡ true → unsigned_abs n - 1 < size

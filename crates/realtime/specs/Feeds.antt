@@ -1,8 +1,5 @@
 -- What a feed's list holds and what it means. Assumes nothing.
 --   feed_layout per       locations to 64, hours to 25, a mark a cell, `per` prices a cell
---   outside m n l h       the location or the hour is outside the sizes
---   cell n l h            the cell of a location and hour, location after location at n hours each
---   CellAmong m n l h r   r is the cell of a location and hour, or none outside
 --   is_one z              z is 1
 --   published xs c        the mark of cell c is 1
 --   price per xs all c i  the price of interval i, from 0, of cell c, behind the marks of all cells
@@ -13,13 +10,13 @@
 --   feed_meaning per xs m n l h  what a feed of m locations and n hours answers
 --   Stands per xs all     every mark and price of so many cells stands in the list
 --   Priced per xs all     every price of so many cells is within its bounds
-use Rattle.std.specs.Prelude.{◌≡◌, ℕ, zero, suc, ◌+◌, ◌-◌, ◌*◌, ◌/◌, ◌<◌, Bool, true, false, cond, not, ◌&&◌, List, length, ℤ, pos, negsuc, ◌+ℤ◌, ◌*ℤ◌, Some, None, Ok, Err, Option, Result, ◌==◌, unsigned_abs}
+use Rattle.std.specs.Prelude.{ℕ, zero, suc, ◌+◌, ◌*◌, ◌/◌, ◌<◌, Bool, false, cond, List, length, ℤ, pos, negsuc, ◌+ℤ◌, ◌*ℤ◌, Ok, Err, Result, ◌==◌}
 use Rattle.market.specs.declared.fault.Cause.{Cause}
 use Rattle.market.specs.declared.fault.Cause.TheVariants.{Outside, Missing}
 use Rattle.market.specs.declared.fault.SourceFault.{SourceFault}
 use Rattle.market.specs.declared.words.Layer.TheVariants.{RealTime}
 use Rattle.lists.specs.declared.layout.Layout.{Layout}
-use Rattle.lists.specs.Counted.{is_among}
+use Rattle.lists.specs.Cells.{outside, cell}
 use Rattle.lists.specs.Lists.{num, Bounded}
 
 abbrev pub feed_layout : ℕ → Layout
@@ -30,16 +27,6 @@ feed_layout per = record {
   first = record { per_cell = 1; low = pos 0; high = pos 1 };
   second = record { per_cell = per; low = negsuc 999999; high = pos 1000000 };
 }
-
-abbrev pub outside : ℕ → ℕ → ℤ → ℤ → Bool
-outside m n l h = not (is_among m l && is_among n h)
-
-abbrev pub cell : ℕ → ℤ → ℤ → ℕ
-cell n l h = (unsigned_abs l - 1) * n + (unsigned_abs h - 1)
-
-abbrev pub CellAmong : ℕ → ℕ → ℤ → ℤ → Option ℕ → Type 0
-CellAmong m n l h None = outside m n l h ≡ true
-CellAmong m n l h (Some c) = (outside m n l h ≡ false) × (c ≡ cell n l h) × (c < m * n)
 
 abbrev pub is_one : ℤ → Bool
 is_one (pos n) = n == 1

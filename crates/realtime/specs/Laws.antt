@@ -11,7 +11,8 @@ use Rattle.market.specs.declared.fault.Cause.TheVariants.{Outside, Missing}
 use Rattle.market.specs.declared.fault.SourceFault.{SourceFault}
 use Rattle.lists.specs.declared.layout.Sizes.{Sizes}
 use Rattle.lists.specs.Lists.{num, cells, Passed}
-use Rattle.realtime.specs.Feeds.{feed_layout, cell, summed, faulty}
+use Rattle.lists.specs.Cells.{cell}
+use Rattle.realtime.specs.Feeds.{feed_layout, summed, faulty}
 
 abbrev pub Whole : ℕ → List ℤ → Type 0
 Whole per xs = (s : Sizes) × Passed (feed_layout per) xs s

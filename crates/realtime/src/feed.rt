@@ -7,16 +7,17 @@ pub mod opening;
 mod prices;
 pub mod reading;
 
-const PUBLISHED: i32 = 1; // the mark of a published hour, 0 being that of one that is not
+use lists::layout::Sizes;
+
+const PUBLISHED: i32 = 1; // the mark of a published hour in a list of numbers, 0 being that of one that is not
 
 /// A list beside its sizes, with `PER` prices to an hour of a location; over a list that did not pass the check both sizes are 0.
 #[derive(Drop)]
 pub struct Feed<'a, const PER: u8> {
     list: &'a [i32],
-    locations: u8,
-    hours: u16,
-    ghost stands: { Stands PER list.now (locations * hours) },
-    ghost priced: { Priced PER list.now (locations * hours) },
+    sizes: Sizes,
+    ghost stands: { Stands PER list.now (sizes.rows * sizes.columns) },
+    ghost priced: { Priced PER list.now (sizes.rows * sizes.columns) },
 }
 
 /// Twelve five-minute prices an hour, whose sum is the average.

@@ -1,22 +1,23 @@
-// The prices of a cell and their average in twelfths.
-ghost use Rattle.std.specs.Prelude.{◌≡◌, ◌+◌, ◌*◌, ◌^◌, ◌<◌, ◌≤◌, length, pos, ◌*ℤ◌, neg_ℤ, ◌≤ℤ◌};
+// The mark and the prices of a cell, and their average in twelfths.
+ghost use Rattle.std.specs.Prelude.{◌≡◌, ◌+◌, ◌*◌, ◌^◌, ◌<◌, ◌≤◌, length, take, drop, pos, ◌*ℤ◌, neg_ℤ, ◌≤ℤ◌};
 ghost use Rattle.lists.specs.Lists.{num};
-ghost use Rattle.realtime.specs.Feeds.{summed, weight, average as average_of, Stands};
+ghost use Rattle.realtime.specs.Feeds.{summed, published, weight, average as average_of};
 
+use super::{Feed, PUBLISHED};
 use market::bounds::Rate;
 
 const TWELFTHS: u8 = 12; // of an hour, each of five minutes
 
-/// The sum of the `count` prices from an index on.
-fn sum_from(list: &[i32], from: usize, count: u8) -> i64
-    requires within { from + count ≤ length list.now }
-    ensures value { result ≡ summed (λ i. num list.now (from + i)) count }
+/// The sum of fewer than 256 prices.
+fn sum_of(prices: &[i32]) -> i64
+    requires { length prices.now < 2 ^ 8 }
+    ensures value { result ≡ summed (num prices.now) (length prices.now) }
     ensures low { neg_ℤ (pos (2 ^ 40)) ≤ℤ result }
     ensures high { result ≤ℤ pos (2 ^ 40) }
 {
-    let mut sum: i64 = 0;
-    for i in 0..count as usize {
-        sum += list[from + i] as i64;
+    let mut sum = 0;
+    for price in prices {
+        sum += i64::from(*price);
     }
     sum
 }
@@ -25,30 +26,10 @@ fn sum_from(list: &[i32], from: usize, count: u8) -> i64
 fn weight_of(per: u8) -> i64
     ensures { result ≡ pos (weight per) }
 {
-    if per == 0 {
-        return 0;
-    }
-    (TWELFTHS / per) as i64
+    i64::from(TWELFTHS.checked_div(per).unwrap_or(0))
 }
 
-/// The index of a cell's first price, behind the marks of all cells.
-fn first_price(cells: usize, cell: usize, per: u8) -> usize
-    requires few { cells < 2 ^ 24 }
-    requires inside { cell < cells }
-    ensures { result ≡ 2 + cells + cell * per }
-{
-    2 + cells + cell * per as usize
-}
-
-/// Locations × hours.
-pub(super) fn cells_of(locations: u8, hours: u16) -> usize
-    ensures value { result ≡ locations * hours }
-    ensures bound { result < 2 ^ 24 }
-{
-    locations as usize * hours as usize
-}
-
-/// A sum of prices in twelfths: each price counts as often as it stands for a twelfth of an hour.
+/// A sum of prices in twelfths: each of `per` prices counts as often as it stands for a twelfth of an hour.
 fn in_twelfths(sum: i64, per: u8) -> i64
     requires low { neg_ℤ (pos (2 ^ 40)) ≤ℤ sum }
     requires high { sum ≤ℤ pos (2 ^ 40) }
@@ -57,13 +38,31 @@ fn in_twelfths(sum: i64, per: u8) -> i64
     weight_of(per) * sum
 }
 
-/// The average of a cell, whose prices stand in the list.
-pub(super) fn average_at(list: &[i32], cells: usize, cell: usize, per: u8) -> Rate
-    requires few { cells < 2 ^ 24 }
-    requires inside { cell < cells }
-    requires stands { Stands per list.now cells }
-    ensures { result ≡ average_of per list.now cells cell }
-{
-    let sum = sum_from(list, first_price(cells, cell, per), per);
-    in_twelfths(sum, per)
+impl<const PER: u8> Feed<'_, PER> {
+    /// Whether the mark of a cell says that it is published.
+    pub(super) fn is_published(&self, cell: usize) -> bool
+        requires { cell < self.now.sizes.rows * self.now.sizes.columns }
+        ensures { result ≡ published self.now.list.now cell }
+    {
+        self.list[2 + cell] == PUBLISHED
+    }
+
+    /// The prices of a cell, behind the marks of all cells.
+    fn prices(&self, cell: usize) -> &[i32]
+        requires { cell < self.now.sizes.rows * self.now.sizes.columns }
+        ensures value { result.now ≡ take PER (drop (2 + self.now.sizes.rows * self.now.sizes.columns + cell * PER) self.now.list.now) }
+        ensures len { length result.now ≡ PER }
+    {
+        let per = usize::from(PER);
+        let first = 2 + self.sizes.cells() + cell * per;
+        &self.list[first..first + per]
+    }
+
+    /// The average of a cell.
+    pub(super) fn average_of(&self, cell: usize) -> Rate
+        requires { cell < self.now.sizes.rows * self.now.sizes.columns }
+        ensures { result ≡ average_of PER self.now.list.now (self.now.sizes.rows * self.now.sizes.columns) cell }
+    {
+        in_twelfths(sum_of(self.prices(cell)), PER)
+    }
 }

@@ -1,31 +1,25 @@
 -- A list that passed is read as its numbers stand, and of any other all is outside.
-use Rattle.std.proofs.Common.{sym, refl}
-use Rattle.realtime.proofs.Readings.{refused_not_whole, refused_opened, refused_reads, passed_stands, passed_priced, passed_opened, whole_reads}
+use Rattle.std.proofs.Common.{refl, rules}
+use Rattle.realtime.proofs.Readings.{Either, either, either_stands, either_priced, either_opened, either_reads}
 use Rattle.realtime.proofs.feed.Feed.over.Goals as goal
+use Rattle.realtime.proofs.feed.Feed.over.Goals.{After-unwrap_or_default-sizes}
 
-pub invariant_of-result-2 : goal.invariant_of-result-2
-invariant_of-result-2 g c =
-    let passed = c.in-Ok.ensures in
-    record {
-      stands = passed_stands g.row.PER c.args.list.now c.in-Ok.sizes passed;
-      priced = passed_priced g.row.PER c.args.list.now c.in-Ok.sizes passed;
-    }
+sizes : (g : _) (c : After-unwrap_or_default-sizes g) → Either g.row.PER c.args.list.now c.unwrap_or_default-sizes.result
+sizes g c = either g.row.PER c.args.list.now c.unwrap_or_default-sizes.result _ (λ d. search rules) c.check.result c.check.ensures c.unwrap_or_default-sizes.ensures
 
-pub returns-in_default : goal.returns-in_default
-returns-in_default g c =
-    let refused = c.in_default.ensures in
-    let never = refused_not_whole g.row.PER c.args.list.now refused.0 refused.1 in
+pub invariant_of-result : goal.invariant_of-result
+invariant_of-result g c =
+    let either = sizes g c in
     record {
-      keeps_the_list = refl;
-      takes_the_sizes = refused_opened g.row.PER c.args.list.now never;
-      reads_the_list = refused_reads g.row.PER c.args.list.now never;
+      stands = either_stands g.row.PER c.args.list.now c.unwrap_or_default-sizes.result either;
+      priced = either_priced g.row.PER c.args.list.now c.unwrap_or_default-sizes.result either;
     }
 
 pub returns : goal.returns
 returns g c =
-    let passed = c.in-Ok.ensures in
+    let either = sizes g (goal.at.returns g c).After-unwrap_or_default-sizes in
     record {
       keeps_the_list = refl;
-      takes_the_sizes = passed_opened g.row.PER c.args.list.now c.in-Ok.sizes passed;
-      reads_the_list = whole_reads g.row.PER c.args.list.now c.in-Ok.sizes.rows c.in-Ok.sizes.columns (sym passed.rows) (sym passed.columns) (c.in-Ok.sizes, passed);
+      takes_the_sizes = either_opened g.row.PER c.args.list.now c.unwrap_or_default-sizes.result either;
+      reads_the_list = either_reads g.row.PER c.args.list.now c.unwrap_or_default-sizes.result either;
     }
