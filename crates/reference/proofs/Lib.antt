@@ -1,3 +1,4 @@
 pub mod Filled
 pub mod Ranked
 pub mod Read
+pub mod Table

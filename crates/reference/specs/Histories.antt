@@ -30,13 +30,13 @@ history_layout = record {
 
 -- the two sizes, then the day-ahead prices, then the averages
 pub record Holds (xs : List ℤ) (s : Sizes) (h : History) : Type 0 where
-  pub locations : h.locations ≡ s.rows
-  pub hours : h.hours ≡ s.columns
+  pub locations : h.sizes.rows ≡ s.rows
+  pub hours : h.sizes.columns ≡ s.columns
   pub prices : h.day_ahead.now ≡ take (cells xs) (drop 2 xs)
   pub averages : h.averages.now ≡ take (cells xs) (drop (2 + cells xs) xs)
 
 abbrev pub HoldsNothing : History → Type 0
-HoldsNothing h = (h.locations ≡ 0) × (h.hours ≡ 0)
+HoldsNothing h = (h.sizes.rows ≡ 0) × (h.sizes.columns ≡ 0)
 
 pub record HistoryOver (xs : List ℤ) (h : History) : Type 0 where
   pub passed : (s : Sizes) → Passed history_layout xs s → Holds xs s h

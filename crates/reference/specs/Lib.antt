@@ -1,5 +1,5 @@
 pub mod Prices
-pub mod Entries
+pub mod Fair
 pub mod Posted
 pub mod Percentile
 pub mod Spreads

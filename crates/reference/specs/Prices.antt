@@ -2,7 +2,6 @@
 --   Reference z      z lies from -24,000,000 to 24,000,000 twelfths of a cent
 --   Priced r         a price is within those bounds; of a fault nothing is asked
 --   fault c l        the fault of a cause at a location
---   asked l r        the answer, a fault beside the location l that was asked for
 --   price_or_refuse l r  the price, or refusal 6 of the location l that was asked for, with the fault whole
 --   missing l s      no price for any location and side
 use Rattle.std.specs.Prelude.{ℤ, pos, negsuc, ◌≤ℤ◌, Ok, Err, Result}
@@ -11,7 +10,6 @@ use Rattle.market.specs.declared.fault.Cause.TheVariants.{Missing}
 use Rattle.market.specs.declared.fault.PolicyFault.{PolicyFault}
 use Rattle.market.specs.declared.fault.Fault.{Fault}
 use Rattle.market.specs.declared.fault.Fault.TheVariants.{NoPrice}
-use Rattle.market.specs.declared.fault.Unpriced.{Unpriced}
 use Rattle.market.specs.declared.words.Side.{Side}
 
 abbrev pub Reference : ℤ → Type 0
@@ -23,10 +21,6 @@ Priced (Err f) = Unit {0}
 
 abbrev pub fault : Cause → ℤ → PolicyFault
 fault c l = record { cause = c; location = l }
-
-abbrev pub asked : ℤ → Result ℤ PolicyFault → Result ℤ Unpriced
-asked l (Ok z) = Ok z
-asked l (Err f) = Err (record { asked = l; fault = f })
 
 abbrev pub price_or_refuse : ℤ → Result ℤ PolicyFault → Result ℤ Fault
 price_or_refuse l (Ok z) = Ok z

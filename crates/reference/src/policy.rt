@@ -2,10 +2,10 @@
 ghost use Rattle.std.specs.Prelude.{◌≡◌, ℤ, Result};
 ghost use Rattle.market.specs.declared.fault.PolicyFault.{PolicyFault};
 ghost use Rattle.market.specs.declared.words.Side.{Side};
-ghost use Rattle.reference.specs.Prices.{Priced, asked, price_or_refuse};
+ghost use Rattle.reference.specs.Prices.{Priced, price_or_refuse};
 
 use market::bounds::{Number, Rate};
-use market::fault::{Fault, PolicyFault, Unpriced};
+use market::fault::{Asked, Fault, PolicyFault};
 use market::words::Side;
 
 /// A source of reference prices, held to its meaning alone: a price for each location and side, or a fault.
@@ -19,20 +19,6 @@ pub trait Policy {
         ensures keeps_the_meaning { meaning self.new ≡ meaning self.old };
 }
 
-/// What a policy answers; a fault goes with the location that was asked for.
-fn ask<P: Policy>(policy: &mut P, location: Number, side: Side) -> Result<Rate, Unpriced>
-    ensures answers_by_meaning { result ≡ asked location (P.meaning policy.old location side) }
-    ensures keeps_the_meaning { P.meaning policy.new ≡ P.meaning policy.old }
-{
-    match policy.quote(location, side) {
-        Ok(price) => Ok(price),
-        Err(fault) => Err(Unpriced {
-            asked: location,
-            fault,
-        }),
-    }
-}
-
 /// A policy's price, or refusal 6 of the location that was asked for, with the policy's fault whole.
 pub fn price_or_refuse<P: Policy>(
     policy: &mut P,
@@ -42,6 +28,9 @@ pub fn price_or_refuse<P: Policy>(
     ensures answers_by_meaning { result ≡ price_or_refuse location (P.meaning policy.old location side) }
     ensures keeps_the_meaning { P.meaning policy.new ≡ P.meaning policy.old }
 {
-    let price = ask(policy, location, side)?;
+    let price = policy.quote(location, side).map_err(|fault| Asked {
+        asked: location,
+        fault,
+    })?;
     Ok(price)
 }

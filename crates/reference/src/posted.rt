@@ -1,23 +1,22 @@
 // The posted policy: a table of prices by location and side.
-ghost use Rattle.reference.specs.Entries.{EachPriced};
+ghost use Rattle.std.specs.Prelude.{◌≡◌, true};
+ghost use Rattle.reference.specs.Fair.{fair};
 
 pub mod prices;
 
 use market::bounds::Rate;
 
-/// Prices of locations 1 to 64 by side, where they were posted.
-pub struct Posted {
-    supply: [Option<Rate>; 64],
-    demand: [Option<Rate>; 64],
-    ghost supply_priced: { EachPriced supply },
-    ghost demand_priced: { EachPriced demand },
+/// A location's prices by side, each where it was posted.
+#[derive(Clone, Copy)]
+struct Entry {
+    supply: Option<Rate>,
+    demand: Option<Rate>,
+    ghost supply_fair: { fair supply ≡ true },
+    ghost demand_fair: { fair demand ≡ true },
 }
 
-impl Drop for Posted {
-    fn drop(self) {
-        let Posted {
-            supply: _,
-            demand: _,
-        } = self;
-    }
+/// Prices of locations 1 to 64 by side, where they were posted.
+#[derive(Drop)]
+pub struct Posted {
+    entries: [Entry; 64],
 }

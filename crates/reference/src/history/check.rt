@@ -4,25 +4,26 @@ ghost use Rattle.lists.specs.Lists.{Checked, Passed};
 ghost use Rattle.reference.specs.Histories.{history_layout, Holds, HoldsNothing, HistoryOver};
 
 use super::History;
-use lists::check::check;
+use crate::percentile::HOURS_OF_HISTORY;
 use lists::layout::{Block, Layout, Sizes};
+use market::bounds::{HIGHEST_AVERAGE, HIGHEST_PRICE, LOCATIONS};
 use market::fault::Fault;
 use market::words::Layer;
 
 /// Up to 64 locations and 2,209 hours; for each a day-ahead price, then for each an average.
 const HISTORY: Layout = Layout {
     layer: Layer::Policy,
-    rows: 64,
-    columns: 2209,
+    rows: LOCATIONS as u8,
+    columns: HOURS_OF_HISTORY as u16,
     first: Block {
         per_cell: 1,
-        low: -1_000_000,
-        high: 1_000_000,
+        low: -HIGHEST_PRICE as i32,
+        high: HIGHEST_PRICE as i32,
     },
     second: Block {
         per_cell: 1,
-        low: -12_000_000,
-        high: 12_000_000,
+        low: -HIGHEST_AVERAGE as i32,
+        high: HIGHEST_AVERAGE as i32,
     },
 };
 
@@ -30,7 +31,7 @@ const HISTORY: Layout = Layout {
 pub fn check_history(list: &[i32]) -> Result<Sizes, Fault>
     ensures { Checked history_layout list.now result }
 {
-    check(list, &HISTORY)
+    HISTORY.check(list)
 }
 
 impl<'a> History<'a> {
@@ -39,28 +40,22 @@ impl<'a> History<'a> {
         requires { Passed history_layout list.now sizes }
         ensures { Holds list.now sizes result }
     {
-        let locations = sizes.rows as usize;
-        let hours = sizes.columns as usize;
-        let cells = locations * hours;
-        let day_ahead = &list[2..2 + cells];
-        let averages = &list[2 + cells..2 + cells + cells];
+        let (day_ahead, averages) = list[2..].split_at(sizes.cells());
         History {
-            locations,
-            hours,
+            sizes,
             day_ahead,
             averages,
         }
     }
 
     /// No location and no hour.
-    fn nothing(list: &'a [i32]) -> History<'a>
+    fn nothing() -> History<'a>
         ensures { HoldsNothing result }
     {
         History {
-            locations: 0,
-            hours: 0,
-            day_ahead: &list[0..0],
-            averages: &list[0..0],
+            sizes: Sizes::default(),
+            day_ahead: &[],
+            averages: &[],
         }
     }
 
@@ -68,9 +63,9 @@ impl<'a> History<'a> {
     pub fn over(list: &'a [i32]) -> History<'a>
         ensures { HistoryOver list.now result }
     {
-        let Ok(sizes) = check_history(list) else {
-            return History::nothing(list);
-        };
-        History::read(list, sizes)
+        match check_history(list) {
+            Ok(sizes) => History::read(list, sizes),
+            Err(_) => History::nothing(),
+        }
     }
 }

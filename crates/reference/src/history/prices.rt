@@ -11,37 +11,36 @@ use market::bounds::{Number, Rate};
 use market::fault::{Cause, PolicyFault};
 use market::words::Side;
 
-/// The numbers of the hours of a location, by its index.
-fn of_location(numbers: &[i32], index: usize, hours: usize) -> &[i32]
-    requires few { index < 64 }
-    requires short { hours ≤ 2209 }
-    requires within { index * hours + hours ≤ length numbers.now }
-    ensures { result.now ≡ take hours (drop (index * hours) numbers.now) }
-{
-    let from = index * hours;
-    &numbers[from..from + hours]
+impl<'a> History<'a> {
+    /// The numbers of a location, by its index, among those of all.
+    fn of_location(&self, numbers: &'a [i32], index: usize) -> &'a [i32]
+        requires among { index < self.now.sizes.rows }
+        requires whole { length numbers.now ≡ self.now.sizes.rows * self.now.sizes.columns }
+        ensures { result.now ≡ take self.now.sizes.columns (drop (index * self.now.sizes.columns) numbers.now) }
+    {
+        let hours = usize::from(self.sizes.columns);
+        let first = index * hours;
+        &numbers[first..first + hours]
+    }
 }
 
 impl<'a> Policy for History<'a> {
-    ghost meaning = { λ h. history_price h.locations h.hours h.averages.now h.day_ahead.now };
+    ghost meaning = { λ h. history_price h.sizes.rows h.sizes.columns h.averages.now h.day_ahead.now };
 
-    ghost bounded = { λ h. history_priced h.locations h.hours h.averages.now h.day_ahead.now h.averages_bounded h.day_ahead_bounded };
+    ghost bounded = { λ h. history_priced h.sizes.rows h.sizes.columns h.averages.now h.day_ahead.now h.averages_bounded h.day_ahead_bounded };
 
     fn quote(&mut self, location: Number, side: Side) -> Result<Rate, PolicyFault> {
-        let Some(index) = index_from_one(location, self.locations) else {
+        let Some(index) = index_from_one(location, usize::from(self.sizes.rows)) else {
             return Err(PolicyFault {
                 cause: Cause::Outside,
                 location,
             });
         };
-        let averages = of_location(self.averages, index, self.hours);
-        let day_ahead = of_location(self.day_ahead, index, self.hours);
-        match reference_price(side, averages, day_ahead) {
-            Some(price) => Ok(price),
-            None => Err(PolicyFault {
-                cause: Cause::Missing,
-                location,
-            }),
-        }
+        let averages = self.of_location(self.averages, index);
+        let day_ahead = self.of_location(self.day_ahead, index);
+        reference_price(side, averages, day_ahead).ok_or(PolicyFault {
+            cause: Cause::Missing,
+            location,
+        })
     }
 }

@@ -1,22 +1,50 @@
 // Posting a price, and quoting it.
-ghost use Rattle.std.specs.Prelude.{◌≡◌};
-ghost use Rattle.reference.specs.Entries.{in_reference};
-ghost use Rattle.reference.specs.Posted.{posted_price, posted_priced, Posting, EmptyTable};
+ghost use Rattle.std.specs.Prelude.{◌≡◌, true, Some};
+ghost use Rattle.reference.specs.Fair.{in_reference};
+ghost use Rattle.reference.specs.Posted.{by_side, KeepsTheOther, posted_price, posted_priced, Posting, EmptyTable};
 
-use super::Posted;
+use super::{Entry, Posted};
 use crate::policy::Policy;
 use lists::counted::index_from_one;
-use market::bounds::{HIGHEST_REFERENCE, Number, Rate};
+use market::bounds::{HIGHEST_REFERENCE, LOCATIONS, Number, Rate};
 use market::fault::{Cause, Fault, PolicyFault};
 use market::words::{Layer, Side};
-
-const LOCATIONS: usize = 64; // locations of the table
 
 /// Whether a price is within the bounds of a reference price.
 fn is_reference(price: Rate) -> bool
     ensures { result ≡ in_reference price }
 {
-    -HIGHEST_REFERENCE <= price && price <= HIGHEST_REFERENCE
+    (-HIGHEST_REFERENCE..=HIGHEST_REFERENCE).contains(&price)
+}
+
+impl Entry {
+    /// The price of a side, where it was posted.
+    fn price(self, side: Side) -> Option<Rate>
+        ensures { result ≡ by_side self.supply self.demand side }
+    {
+        match side {
+            Side::Supply => self.supply,
+            Side::Demand => self.demand,
+        }
+    }
+
+    /// The entry with a price for a side, in place of any before.
+    fn with(self, side: Side, price: Rate) -> Entry
+        requires { in_reference price ≡ true }
+        ensures posted { by_side result.supply result.demand side ≡ Some price }
+        ensures kept { KeepsTheOther side self result }
+    {
+        match side {
+            Side::Supply => Entry {
+                supply: Some(price),
+                demand: self.demand,
+            },
+            Side::Demand => Entry {
+                supply: self.supply,
+                demand: Some(price),
+            },
+        }
+    }
 }
 
 impl Posted {
@@ -24,9 +52,12 @@ impl Posted {
     pub fn new() -> Posted
         ensures { EmptyTable result }
     {
+        let empty = Entry {
+            supply: None,
+            demand: None,
+        };
         Posted {
-            supply: [None; 64],
-            demand: [None; 64],
+            entries: [empty; 64],
         }
     }
 
@@ -38,42 +69,32 @@ impl Posted {
             layer: Layer::Policy,
             place: location,
         };
-        let Some(i) = index_from_one(location, LOCATIONS) else {
+        let Some(i) = index_from_one(location, LOCATIONS as usize) else {
             return Err(refused);
         };
         if !is_reference(price) {
             return Err(refused);
         }
-        match side {
-            Side::Supply => self.supply[i] = Some(price),
-            Side::Demand => self.demand[i] = Some(price),
-        }
+        self.entries[i] = self.entries[i].with(side, price);
         Ok(())
     }
 }
 
 impl Policy for Posted {
-    ghost meaning = { λ p. posted_price p.supply p.demand };
+    ghost meaning = { λ p. posted_price p.entries };
 
-    ghost bounded = { λ p. posted_priced p.supply p.demand p.supply_priced p.demand_priced };
+    ghost bounded = { λ p. posted_priced p.entries };
 
     fn quote(&mut self, location: Number, side: Side) -> Result<Rate, PolicyFault> {
-        let Some(i) = index_from_one(location, LOCATIONS) else {
+        let Some(i) = index_from_one(location, LOCATIONS as usize) else {
             return Err(PolicyFault {
                 cause: Cause::Outside,
                 location,
             });
         };
-        let entry = match side {
-            Side::Supply => self.supply[i],
-            Side::Demand => self.demand[i],
-        };
-        match entry {
-            Some(price) => Ok(price),
-            None => Err(PolicyFault {
-                cause: Cause::Missing,
-                location,
-            }),
-        }
+        self.entries[i].price(side).ok_or(PolicyFault {
+            cause: Cause::Missing,
+            location,
+        })
     }
 }

@@ -1,23 +1,16 @@
--- The entry that is written is a reference price, and the others are as they were.
-use Rattle.std.proofs.Common.{◌≡◌, ℕ, zero, suc, true, List, [], ◌∷◌, set, ℤ, Some, Option, sym}
-use Rattle.reference.specs.Entries.{in_reference, EachPriced}
+-- The entry that is written has the price, and the others are as they were.
+use Rattle.std.proofs.Common.{◌≡◌, ◌<◌, length, Some, sym, ap, ◌∙◌, w64, rules}
+use Rattle.std.proofs.lemmas.Int.{to_z-of_z}
+use Rattle.reference.proofs.Table.{posted_one}
 use Rattle.reference.proofs.posted.Posted.post.Goals as goal
 
-priced_set : (xs : List (Option ℤ)) (i : ℕ) (z : ℤ) → true ≡ in_reference z → EachPriced xs → EachPriced (set xs i (Some z))
-priced_set [] i z h all k = all k
-priced_set (x ∷ xs) zero z h all zero = sym h
-priced_set (x ∷ xs) zero z h all (suc k) = all (suc k)
-priced_set (x ∷ xs) (suc i) z h all zero = all 0
-priced_set (x ∷ xs) (suc i) z h all (suc k) = priced_set xs i z h (λ j. all (suc j)) k
-
-pub invariant_of-self : goal.invariant_of-self
-invariant_of-self c = record {
-  supply_priced = priced_set c.args.self.now.supply c.in-Some.i _ c.if-not-is_reference.ensures c.args.self.now.supply_priced;
-  demand_priced = c.args.self.now.demand_priced;
-}
-
-pub invariant_of-self-in-Demand : goal.invariant_of-self-in-Demand
-invariant_of-self-in-Demand c = record {
-  supply_priced = c.args.self.now.supply_priced;
-  demand_priced = priced_set c.args.self.now.demand c.in-Some.i _ c.if-not-is_reference.ensures c.args.self.now.demand_priced;
-}
+pub returns : goal.returns
+returns c =
+    let l = to_z-of_z w64 c.args.location c.ranges.location in
+    let z = to_z-of_z w64 c.args.price c.ranges.price in
+    let among = simp l at c.in-Some.ensures in
+    let fits = simp z at c.is_reference.ensures in
+    let new = simp z at c.with.ensures.posted in
+    let within : c.in-Some.i < length c.args.self.now.entries = search rules in
+    posted_one c.args.self.now.entries c.args.location c.in-Some.i c.index-self-i.result among.0 among.1 within c.args.side c.args.price c.with.result
+    (sym fits ∙ c.if-not-is_reference.false) new c.with.ensures.kept
