@@ -5,7 +5,7 @@ use Rattle.std.proofs.lemmas.List.Sums.{sum_by-cons, count_by-le-length}
 use Rattle.std.proofs.ByRecursion.{all-has, All-push, has_append_right}
 use Rattle.std.proofs.lemmas.Bool.{cases_Bool, cases_order, cond-true, cond-false, eq-eqb, eqb-true}
 use Rattle.rank.specs.Ranks.{ahead, first_with, at_rank, Apart}
-use Rattle.rank.proofs.Narrowing.{count_mono, count_less}
+use Rattle.rank.proofs.Counts.{count_mono, count_less}
 
 has_here : {X : Type 0} (x : X) (xs : List X) → ContainsAt (x ∷ xs) x
 has_here x xs = (0, omega arith, λ d. refl)
@@ -49,9 +49,7 @@ module _ {X : Type 0} (before : X → X → Bool) (strict : (x : X) → before x
   ahead_le xs x y e = count_mono (λ z. before z x) (λ z. before z y) (λ z h. trans z x y h e) xs
 
   ahead_less : (xs : List X) (x y : X) → ContainsAt xs x → before x y ≡ true → ahead before x xs < ahead before y xs
-  ahead_less xs x y (k, h, at) e =
-      count_less (λ z. before z x) (λ z. before z y) (λ z b. trans z x y b e) xs k x h
-      (ap (λ z. before z x) (at x) ∙ strict x) (ap (λ z. before z y) (at x) ∙ e)
+  ahead_less xs x y h e = count_less (λ z. before z x) (λ z. before z y) (λ z b. trans z x y b e) xs x h (strict x) e
 
   -- elements of one rank are not before one another
   pub same_rank : (xs : List X) (x y : X) → ContainsAt xs x → ahead before x xs ≡ ahead before y xs → before x y ≡ false
