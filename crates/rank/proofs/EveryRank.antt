@@ -1,5 +1,5 @@
 -- Where no two elements are the same, each rank up to the length has an element, and elements of one rank are not before one another. Assumes nothing.
-use Rattle.std.proofs.Common.{◌≡◌, ℕ, zero, suc, ◌+◌, ◌-◌, ◌<◌, ◌≤◌, Bool, true, false, cond, not, eqb, List, [], ◌∷◌, ◌++◌, length, Some, None, Option, sym, refl, ap, ◌∙◌, subst, ⊎_elim, arith}
+use Rattle.std.proofs.Common.{◌≡◌, ℕ, zero, suc, ◌+◌, ◌-◌, ◌<◌, ◌≤◌, Bool, true, false, cond, not, eqb, List, [], ◌∷◌, ◌++◌, length, Some, sym, refl, ap, ◌∙◌, subst, ⊎_elim, arith}
 use Rattle.std.specs.List.{ContainsAt, AllByRecursion}
 use Rattle.std.proofs.lemmas.List.Sums.{sum_by-cons, count_by-le-length}
 use Rattle.std.proofs.ByRecursion.{all-has, All-push, has_append_right}
@@ -18,12 +18,9 @@ pub apart_push : {X : Type 0} (xs : List X) (y : X) → Apart xs → AllByRecurs
 apart_push [] y a b = (tt, tt)
 apart_push (x ∷ xs) y a b = (All-push (λ z. x ≡ z → ⊥) xs y a.0 b.0, apart_push xs y a.1 b.1)
 
-none_is_not_some : {X : Type 0} {x : X} → ◌≡◌ {A = Option X} None (Some x) → ⊥
-none_is_not_some e = let z : ◌≡◌ {A = ℕ} 0 1 = cc in omega arith
-
 -- the first that passes does, and stands in the list; there is one where some element passes
 pub first_passes : {X : Type 0} (p : X → Bool) (xs : List X) (x : X) → first_with p xs ≡ Some x → ContainsAt xs x × (p x ≡ true)
-first_passes p [] x e = absurd (none_is_not_some e)
+first_passes p [] x e = cc
 first_passes p (y ∷ ys) x e =
     ⊎_elim
     (λ t. let same : y ≡ x = cc (cond-true (p y) (Some y) (first_with p ys) t) in
