@@ -7,9 +7,7 @@ use Rattle.std.proofs.lemmas.Bool.{cases_Bool, cond-true, cond-false}
 
 module _ {X : Type 0} (p q : X → Bool) (weaker : (y : X) → p y ≡ true → q y ≡ true) where
   one_le : (x : X) → cond (p x) 1 0 ≤ cond (q x) 1 0
-  one_le x =
-      ⊎_elim (λ t. omega (arith, cond-true {A = ℕ} (p x) 1 0 t, cond-true {A = ℕ} (q x) 1 0 (weaker x t)))
-      (λ f. omega (arith, cond-false {A = ℕ} (p x) 1 0 f)) (cases_Bool (p x))
+  one_le x = let f = weaker x in grind arith
 
   pub count_mono : (xs : List X) → count_by p xs ≤ count_by q xs
   count_mono xs = sum_by-le-sum_by (λ x. cond (p x) 1 0) (λ x. cond (q x) 1 0) xs one_le
@@ -26,5 +24,4 @@ module _ {X : Type 0} (p q : X → Bool) (weaker : (y : X) → p y ≡ true → 
   )
 
 pub count_none : {X : Type 0} (p : X → Bool) (xs : List X) → count_by p xs ≡ 0 → AllByRecursion (λ x. p x ≡ false) xs
-count_none p xs e = recursion_from_All (λ x. p x ≡ false) xs (λ k d h.
-    ⊎_elim (λ t. absurd (omega (arith, get_or-le-sum_by (λ x. cond (p x) 1 0) xs k d h, cond-true {A = ℕ} (p (get_or xs k d)) 1 0 t))) (λ f. f) (cases_Bool (p (get_or xs k d))))
+count_none p xs e = recursion_from_All (λ x. p x ≡ false) xs (λ k d h. let le = get_or-le-sum_by (λ x. cond (p x) 1 0) xs k d h in grind arith)

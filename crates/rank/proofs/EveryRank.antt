@@ -55,14 +55,12 @@ module _ {X : Type 0} (before : X → X → Bool) (strict : (x : X) → before x
   -- an element of the rest that keeps its count, since y does not go before it
   lower : (y : X) (ys : List X) (r : ℕ) (x : X) → ContainsAt ys x → ahead before x ys ≡ r → r < ahead before y ys → ahead before x (y ∷ ys) ≡ r
   lower y ys r x h e low =
-      ⊎_elim (λ t. absurd (omega (arith, ahead_le ys y x t)))
-      (λ f. omega (arith, ahead_cons y ys x, cond-false {A = ℕ} (before y x) 1 0 f)) (cases_Bool (before y x))
+      let c = ahead_cons y ys x in let l = ahead_le ys y x in grind arith
 
   -- an element of the rest that y goes before
   upper : (y : X) (ys : List X) (r : ℕ) (x : X) → ContainsAt ys x → (y ≡ x → ⊥) → ahead before x ys ≡ r → ahead before y ys ≤ r → ahead before x (y ∷ ys) ≡ r + 1
   upper y ys r x h ne e high =
-      ⊎_elim (λ t. omega (arith, ahead_cons y ys x, cond-true {A = ℕ} (before y x) 1 0 t))
-      (λ f. absurd (omega (arith, ahead_less ys x y h (decides x y (λ p. ne (sym p)) ∙ ap not f)))) (cases_Bool (before y x))
+      let c = ahead_cons y ys x in let l = ahead_less ys x y h in let d = decides x y (λ p. ne (sym p)) in grind arith
 
   -- the element that has r others before it
   pub every_rank : (xs : List X) → Apart xs → (r : ℕ) → r < length xs → (x : X) × ContainsAt xs x × (ahead before x xs ≡ r)
