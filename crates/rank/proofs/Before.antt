@@ -1,7 +1,7 @@
 -- What goes before what by a comparison that is total: the answers of the comparison, read as a test. Assumes nothing.
-use Rattle.std.proofs.Common.{◌≡◌, true, false, Ordering, Less, Equal, Greater, refl, sym, ap, ◌∙◌}
+use Rattle.std.proofs.Common.{arith, ◌≡◌, true, false, Ordering, Less, Equal, Greater, refl, ap}
 use Rattle.std.specs.Cmp.{IsTotalOrder}
-use Rattle.std.specs.Ordering.{is_lt, ordering_reverse}
+use Rattle.std.specs.Ordering.{is_lt}
 use Rattle.std.proofs.lemmas.Bool.{false≢true}
 use Rattle.std.proofs.lemmas.Cmp.{tied_itself}
 use Rattle.rank.specs.Ranks.{before}
@@ -18,11 +18,6 @@ module _ {X : Type 0} (cmp : X → X → Ordering) (total : IsTotalOrder cmp) wh
   pub before_trans : (x y z : X) → before cmp x y ≡ true → before cmp y z ≡ true → before cmp x z ≡ true
   before_trans x y z h k = ap is_lt (total.trans x y z (less_from (cmp x y) h) (less_from (cmp y z) k))
 
-  follows_at : (l x y : X) → before cmp l x ≡ false → before cmp y x ≡ true → (o : Ordering) → cmp y l ≡ o → before cmp y l ≡ true
-  follows_at l x y e h Less o = ap is_lt o
-  follows_at l x y e h Equal o = absurd (false≢true (sym e ∙ ap is_lt (sym (total.congr y l x o)) ∙ h))
-  follows_at l x y e h Greater o = absurd (false≢true (sym e ∙ before_trans l y x (ap is_lt (total.antisymm l y ∙ ap ordering_reverse o)) h))
-
   -- what goes before x goes before l, where l does not go before x
   pub before_follows : (l x y : X) → before cmp l x ≡ false → before cmp y x ≡ true → before cmp y l ≡ true
-  before_follows l x y e h = follows_at l x y e h (cmp y l) refl
+  before_follows l x y e h = let a = total.antisymm l y in let c = total.congr y l x in let t = before_trans l y x in grind arith

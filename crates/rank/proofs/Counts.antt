@@ -1,9 +1,9 @@
 -- Counts that grow with what passes. Assumes nothing.
-use Rattle.std.proofs.Common.{◌≡◌, ◌<◌, ◌≤◌, ℕ, Bool, true, false, cond, List, get_or, count_by, ap, ◌∙◌, ⊎_elim, arith}
+use Rattle.std.proofs.Common.{◌≡◌, ◌<◌, ◌≤◌, ℕ, Bool, true, false, cond, List, get_or, count_by, ap, ◌∙◌, arith}
 use Rattle.std.specs.List.{ContainsAt, AllByRecursion, remove}
 use Rattle.std.proofs.lemmas.List.Sums.{sum_by-le-sum_by, sum_by-remove, get_or-le-sum_by}
 use Rattle.std.proofs.lemmas.List.Elements.{recursion_from_All}
-use Rattle.std.proofs.lemmas.Bool.{cases_Bool, cond-true, cond-false}
+use Rattle.std.proofs.lemmas.Bool.{cond-true, cond-false}
 
 module _ {X : Type 0} (p q : X → Bool) (weaker : (y : X) → p y ≡ true → q y ≡ true) where
   one_le : (x : X) → cond (p x) 1 0 ≤ cond (q x) 1 0

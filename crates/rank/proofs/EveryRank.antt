@@ -50,7 +50,7 @@ module _ {X : Type 0} (before : X → X → Bool) (strict : (x : X) → before x
 
   -- elements of one rank are not before one another
   pub same_rank : (xs : List X) (x y : X) → ContainsAt xs x → ahead before x xs ≡ ahead before y xs → before x y ≡ false
-  same_rank xs x y h e = ⊎_elim (λ t. absurd (omega (arith, ahead_less xs x y h t))) (λ f. f) (cases_Bool (before x y))
+  same_rank xs x y h e = let l = ahead_less xs x y h in grind arith
 
   -- an element of the rest that keeps its count, since y does not go before it
   lower : (y : X) (ys : List X) (r : ℕ) (x : X) → ContainsAt ys x → ahead before x ys ≡ r → r < ahead before y ys → ahead before x (y ∷ ys) ≡ r

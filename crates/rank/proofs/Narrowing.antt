@@ -1,10 +1,10 @@
 -- What narrowing rests on: the middle of a gap lies in it, the count of a gap falls as it narrows, and ranks grow along the order. Assumes nothing.
-use Rattle.std.proofs.Common.{◌≡◌, ℕ, ◌+◌, ◌/◌, ◌<◌, ◌≤◌, Bool, true, false, List, length, filter, count_by, slice_get, Some, None, Option, Ordering, sym, refl, subst, ⊎_elim, arith}
+use Rattle.std.proofs.Common.{◌≡◌, ℕ, ◌+◌, ◌/◌, ◌<◌, ◌≤◌, Bool, true, false, List, length, filter, count_by, slice_get, Some, None, Option, Ordering, sym, refl, subst, arith}
 use Rattle.std.specs.Cmp.{IsTotalOrder}
 use Rattle.std.specs.List.{All, AllByRecursion, Contains, ContainsAt}
 use Rattle.std.specs.Option.{IfSome}
 use Rattle.std.proofs.ByRecursion.{All-weaker}
-use Rattle.std.proofs.lemmas.Bool.{both_ways, and_parts, and_from, and_cases, and_left, and_right}
+use Rattle.std.proofs.lemmas.Bool.{and_parts, and_from, and_left, and_right}
 use Rattle.std.proofs.lemmas.List.Elements.{All-contains_itself, All-filter, filter_passes, at_from_Contains}
 use Rattle.std.proofs.lemmas.List.Sums.{length-filter}
 use Rattle.std.proofs.lemmas.Option.{slice_get_within, slice_get_cases, get_or_from_slice_get}
@@ -19,7 +19,7 @@ module _ {X : Type 0} (xs : List X) (i : ℕ) where
   at_get P x all e = subst P (get_or_from_slice_get xs i x x e) (all i x (slice_get_within xs i x e))
 
   past_get : slice_get xs i ≡ None → length xs ≤ i
-  past_get e = ⊎_elim (λ t. cc (t.2)) (λ f. f.0) ((slice_get_cases xs i).1)
+  past_get e = let c = (slice_get_cases xs i).1 in grind arith
 
 pub middle_between : {X : Type 0} (before : X → X → Bool) (gap : Gap X) (xs : List X) (r : Option X)
     → r ≡ slice_get (filter (between before gap) xs) (count_by (between before gap) xs / 2) → Between before gap xs r
@@ -42,19 +42,18 @@ module _ {X : Type 0} (cmp : X → X → Ordering) (total : IsTotalOrder cmp) wh
   ahead_le xs l x e = count_mono (λ y. before cmp y x) (λ y. before cmp y l) (λ y h. before_follows cmp total l x y e h) xs
 
   not_low : (xs : List X) (n : ℕ) (low : Option X) (x : X) → IfSome low (λ l. ahead (before cmp) l xs < n) → over (before cmp) low x ≡ false → ahead (before cmp) x xs ≡ n → ⊥
-  not_low xs n None x t e r = both_ways true e refl
+  not_low xs n None x t e r = cc
   not_low xs n (Some l) x t e r = omega (arith, ahead_le xs l x e)
 
   not_high : (xs : List X) (n : ℕ) (high : Option X) (x : X) → IfSome high (λ h. n < ahead (before cmp) h xs) → under (before cmp) high x ≡ false → ahead (before cmp) x xs ≡ n → ⊥
-  not_high xs n None x t e r = both_ways true e refl
+  not_high xs n None x t e r = cc
   not_high xs n (Some h) x t e r = omega (arith, ahead_le xs x h e)
 
   pub none_between : (xs : List X) (n rank : ℕ) (gap : Gap X) → n + 1 ≡ rank → Around (before cmp) xs n gap
       → AllByRecursion (λ x. between (before cmp) gap x ≡ false) xs → AllByRecursion (λ x. Ranked (before cmp) xs rank x → ⊥) xs
   none_between xs n rank gap e ends none =
       All-weaker (λ x. between (before cmp) gap x ≡ false) (λ x. Ranked (before cmp) xs rank x → ⊥)
-      (λ x f r. ⊎_elim (λ t. not_low xs n gap.low x ends.0 t (omega arith)) (λ t. not_high xs n gap.high x ends.1 t (omega arith))
-      (and_cases (over (before cmp) gap.low x) (under (before cmp) gap.high x) f)) xs none
+      (λ x f r. let l = not_low xs n gap.low x ends.0 in let h = not_high xs n gap.high x ends.1 in grind arith) xs none
 
   over_trans : (low : Option X) (x y : X) → over (before cmp) low x ≡ true → before cmp x y ≡ true → over (before cmp) low y ≡ true
   over_trans None x y a b = refl
