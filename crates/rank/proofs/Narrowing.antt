@@ -4,7 +4,6 @@ use Rattle.std.specs.Cmp.{IsTotalOrder}
 use Rattle.std.specs.List.{All, AllByRecursion, Contains, ContainsAt}
 use Rattle.std.specs.Option.{IfSome}
 use Rattle.std.proofs.ByRecursion.{All-weaker}
-use Rattle.std.proofs.lemmas.Bool.{and_parts, and_from, and_left, and_right}
 use Rattle.std.proofs.lemmas.List.Elements.{All-contains_itself, All-filter, filter_passes, at_from_Contains}
 use Rattle.std.proofs.lemmas.List.Sums.{length-filter}
 use Rattle.std.proofs.lemmas.Option.{slice_get_within, slice_get_cases, get_or_from_slice_get}
@@ -64,19 +63,12 @@ module _ {X : Type 0} (cmp : X → X → Ordering) (total : IsTotalOrder cmp) wh
   under_trans (Some h) x y a b = before_trans cmp total y x h b a
 
   module _ (gap : Gap X) (xs : List X) (x : X) (has : ContainsAt xs x) (inside : between (before cmp) gap x ≡ true) where
-    ends : (over (before cmp) gap.low x ≡ true) × (under (before cmp) gap.high x ≡ true)
-    ends = and_parts (over (before cmp) gap.low x) (under (before cmp) gap.high x) inside
-
     pub falls_low : count_by (between (before cmp) (record gap { low = Some x })) xs < count_by (between (before cmp) gap) xs
     falls_low =
         count_less (between (before cmp) (record gap { low = Some x })) (between (before cmp) gap)
-        (λ y f. let both = and_parts (before cmp x y) (under (before cmp) gap.high y) f in
-        and_from (over (before cmp) gap.low y) (under (before cmp) gap.high y) (over_trans gap.low x y ends.0 both.0) both.1)
-        xs x has (and_left (before cmp x x) (under (before cmp) gap.high x) (before_itself cmp total x)) inside
+        (λ y f. let o = over_trans gap.low x y in grind arith) xs x has (let b = before_itself cmp total x in grind arith) inside
 
     pub falls_high : count_by (between (before cmp) (record gap { high = Some x })) xs < count_by (between (before cmp) gap) xs
     falls_high =
         count_less (between (before cmp) (record gap { high = Some x })) (between (before cmp) gap)
-        (λ y f. let both = and_parts (over (before cmp) gap.low y) (before cmp y x) f in
-        and_from (over (before cmp) gap.low y) (under (before cmp) gap.high y) both.0 (under_trans gap.high x y ends.1 both.1))
-        xs x has (and_right (over (before cmp) gap.low x) (before cmp x x) (before_itself cmp total x)) inside
+        (λ y f. let u = under_trans gap.high x y in grind arith) xs x has (let b = before_itself cmp total x in grind arith) inside
