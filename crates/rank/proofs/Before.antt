@@ -1,5 +1,5 @@
 -- What goes before what by a comparison that is total: the answers of the comparison, read as a test. Assumes nothing.
-use Rattle.std.proofs.Common.{arith, ◌≡◌, true, false, Ordering, Less, Equal, Greater, refl, ap}
+use Rattle.std.proofs.Common.{◌≡◌, true, false, Ordering, Less, Equal, Greater, refl, ap, arith}
 use Rattle.std.specs.Cmp.{IsTotalOrder}
 use Rattle.std.specs.Ordering.{is_lt}
 use Rattle.std.proofs.lemmas.Bool.{false≢true}

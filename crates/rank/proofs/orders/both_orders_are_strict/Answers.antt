@@ -1,3 +1,4 @@
+-- The laws of each order stand as lemmas; what it compares is found by cases.
 use Rattle.rank.proofs.Laws.{spread_strict, spread_transitive, spread_decides, standing_strict, standing_transitive, standing_decides}
 use Rattle.rank.proofs.orders.both_orders_are_strict.Goals as goal
 

@@ -1,4 +1,4 @@
--- The gap falls at both turns, and what it no longer holds has too low or too high a rank.
+-- Each turn leaves fewer elements in the gap; where none is left, no element has the rank.
 use Rattle.std.proofs.Common.{rules}
 use Rattle.rank.proofs.Narrowing.{falls_low, falls_high, none_between}
 use Rattle.rank.proofs.pick.pick.Goals as goal

@@ -1,3 +1,4 @@
+-- Outside the gap no element has the rank, and each turn leaves fewer elements in it.
 use Rattle.std.proofs.Common.{count_by}
 use Rattle.rank.specs.Narrow.{between}
 use Rattle.rank.specs.Ranks.{before}
