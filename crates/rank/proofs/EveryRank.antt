@@ -1,11 +1,11 @@
 -- Where no two elements are the same, each rank up to the length has an element, and elements of one rank are not before one another. Assumes nothing.
-use Rattle.std.proofs.Common.{◌≡◌, ℕ, zero, suc, ◌+◌, ◌-◌, ◌<◌, ◌≤◌, Bool, true, false, cond, not, eqb, List, [], ◌∷◌, ◌++◌, length, Some, None, Option, sym, refl, ap, ◌∙◌, subst, ⊎_elim, arith}
+use Rattle.std.proofs.Common.{◌≡◌, ℕ, zero, suc, ◌+◌, ◌-◌, ◌<◌, ◌≤◌, Bool, true, false, cond, not, eqb, List, [], ◌∷◌, ◌++◌, length, Some, sym, refl, ap, ◌∙◌, subst, ⊎_elim, arith}
 use Rattle.std.specs.List.{ContainsAt, AllByRecursion}
 use Rattle.std.proofs.lemmas.List.Sums.{sum_by-cons, count_by-le-length}
 use Rattle.std.proofs.ByRecursion.{all-has, All-push, has_append_right}
 use Rattle.std.proofs.lemmas.Bool.{cases_Bool, cases_order, cond-true, cond-false, eq-eqb, eqb-true}
 use Rattle.rank.specs.Ranks.{ahead, first_with, at_rank, Apart}
-use Rattle.rank.proofs.Narrowing.{count_mono, count_less}
+use Rattle.rank.proofs.Counts.{count_mono, count_less}
 
 has_here : {X : Type 0} (x : X) (xs : List X) → ContainsAt (x ∷ xs) x
 has_here x xs = (0, omega arith, λ d. refl)
@@ -18,12 +18,9 @@ pub apart_push : {X : Type 0} (xs : List X) (y : X) → Apart xs → AllByRecurs
 apart_push [] y a b = (tt, tt)
 apart_push (x ∷ xs) y a b = (All-push (λ z. x ≡ z → ⊥) xs y a.0 b.0, apart_push xs y a.1 b.1)
 
-none_is_not_some : {X : Type 0} {x : X} → ◌≡◌ {A = Option X} None (Some x) → ⊥
-none_is_not_some e = let z : ◌≡◌ {A = ℕ} 0 1 = cc in omega arith
-
 -- the first that passes does, and stands in the list; there is one where some element passes
 pub first_passes : {X : Type 0} (p : X → Bool) (xs : List X) (x : X) → first_with p xs ≡ Some x → ContainsAt xs x × (p x ≡ true)
-first_passes p [] x e = absurd (none_is_not_some e)
+first_passes p [] x e = cc
 first_passes p (y ∷ ys) x e =
     ⊎_elim
     (λ t. let same : y ≡ x = cc (cond-true (p y) (Some y) (first_with p ys) t) in
@@ -49,25 +46,21 @@ module _ {X : Type 0} (before : X → X → Bool) (strict : (x : X) → before x
   ahead_le xs x y e = count_mono (λ z. before z x) (λ z. before z y) (λ z h. trans z x y h e) xs
 
   ahead_less : (xs : List X) (x y : X) → ContainsAt xs x → before x y ≡ true → ahead before x xs < ahead before y xs
-  ahead_less xs x y (k, h, at) e =
-      count_less (λ z. before z x) (λ z. before z y) (λ z b. trans z x y b e) xs k x h
-      (ap (λ z. before z x) (at x) ∙ strict x) (ap (λ z. before z y) (at x) ∙ e)
+  ahead_less xs x y h e = count_less (λ z. before z x) (λ z. before z y) (λ z b. trans z x y b e) xs x h (strict x) e
 
   -- elements of one rank are not before one another
   pub same_rank : (xs : List X) (x y : X) → ContainsAt xs x → ahead before x xs ≡ ahead before y xs → before x y ≡ false
-  same_rank xs x y h e = ⊎_elim (λ t. absurd (omega (arith, ahead_less xs x y h t))) (λ f. f) (cases_Bool (before x y))
+  same_rank xs x y h e = let l = ahead_less xs x y h in grind arith
 
   -- an element of the rest that keeps its count, since y does not go before it
   lower : (y : X) (ys : List X) (r : ℕ) (x : X) → ContainsAt ys x → ahead before x ys ≡ r → r < ahead before y ys → ahead before x (y ∷ ys) ≡ r
   lower y ys r x h e low =
-      ⊎_elim (λ t. absurd (omega (arith, ahead_le ys y x t)))
-      (λ f. omega (arith, ahead_cons y ys x, cond-false {A = ℕ} (before y x) 1 0 f)) (cases_Bool (before y x))
+      let c = ahead_cons y ys x in let l = ahead_le ys y x in grind arith
 
   -- an element of the rest that y goes before
   upper : (y : X) (ys : List X) (r : ℕ) (x : X) → ContainsAt ys x → (y ≡ x → ⊥) → ahead before x ys ≡ r → ahead before y ys ≤ r → ahead before x (y ∷ ys) ≡ r + 1
   upper y ys r x h ne e high =
-      ⊎_elim (λ t. omega (arith, ahead_cons y ys x, cond-true {A = ℕ} (before y x) 1 0 t))
-      (λ f. absurd (omega (arith, ahead_less ys x y h (decides x y (λ p. ne (sym p)) ∙ ap not f)))) (cases_Bool (before y x))
+      let c = ahead_cons y ys x in let l = ahead_less ys x y h in let d = decides x y (λ p. ne (sym p)) in grind arith
 
   -- the element that has r others before it
   pub every_rank : (xs : List X) → Apart xs → (r : ℕ) → r < length xs → (x : X) × ContainsAt xs x × (ahead before x xs ≡ r)

@@ -1,2 +1,5 @@
-pub mod Narrowing
+pub mod Before
+pub mod Counts
 pub mod EveryRank
+pub mod Laws
+pub mod Narrowing

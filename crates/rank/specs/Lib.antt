@@ -1,5 +1,3 @@
 pub mod Ranks
 pub mod Orders
 pub mod Narrow
-pub mod Laws
-pub mod Lex

@@ -1,8 +1,11 @@
 -- Elements strictly between two, where these are given. Assumes nothing.
---   between before low high x      x goes after low and before high
---   Between before low high xs r   r is the place of an element between the two, or none where there is none
-use Rattle.std.specs.Prelude.{◌≡◌, ℕ, ◌<◌, Bool, true, false, ◌&&◌, List, length, Some, None, Option}
-use Rattle.std.specs.List.{HoldsAt, AllByRecursion}
+--   over before low x           x goes after low, where that is given
+--   under before high x         x goes before high, where that is given
+--   between before gap x        x goes after the lower end of the gap and before its upper end
+--   Between before gap xs r     r is an element of the list between the two, or none where there is none
+use Rattle.std.specs.Prelude.{◌≡◌, Bool, true, false, ◌&&◌, List, Some, None, Option}
+use Rattle.std.specs.List.{ContainsAt, AllByRecursion}
+use Rattle.rank.specs.declared.pick.Gap.{Gap}
 
 abbrev pub over : {X : Type 0} → (X → X → Bool) → Option X → X → Bool
 over before None x = true
@@ -12,9 +15,9 @@ abbrev pub under : {X : Type 0} → (X → X → Bool) → Option X → X → Bo
 under before None x = true
 under before (Some h) x = before x h
 
-abbrev pub between : {X : Type 0} → (X → X → Bool) → Option X → Option X → X → Bool
-between before low high x = over before low x && under before high x
+abbrev pub between : {X : Type 0} → (X → X → Bool) → Gap X → X → Bool
+between before gap x = over before gap.low x && under before gap.high x
 
-abbrev pub Between : {X : Type 0} → (X → X → Bool) → Option X → Option X → List X → Option ℕ → Type 0
-Between before low high xs None = AllByRecursion (λ x. between before low high x ≡ false) xs
-Between before low high xs (Some k) = (k < length xs) × HoldsAt (λ x. between before low high x ≡ true) xs k
+abbrev pub Between : {X : Type 0} → (X → X → Bool) → Gap X → List X → Option X → Type 0
+Between before gap xs None = AllByRecursion (λ x. between before gap x ≡ false) xs
+Between before gap xs (Some x) = ContainsAt xs x × (between before gap x ≡ true)

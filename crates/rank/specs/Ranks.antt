@@ -1,11 +1,23 @@
 -- What the rank of an element is. Assumes nothing.
+--   before cmp a b             a goes before b in the order of the comparison
+--   StrictOrder before         nothing goes before itself, it is transitive, and of two different elements exactly one goes first
 --   ahead before x xs          how many elements of the list go before x
 --   Ranked before xs rank x    exactly rank - 1 elements of the list go before x
 --   Picked before xs rank r    r is an element of the list of that rank, or none where no element has it
 --   at_rank before xs rank     the first element of the list that has the rank, or none
 --   Apart xs                   no two elements of the list are the same
-use Rattle.std.specs.Prelude.{◌≡◌, ℕ, ◌+◌, Bool, cond, List, [], ◌∷◌, Some, None, count_by, Option, ◌≢◌, nat_eq}
+use Rattle.std.specs.Prelude.{◌≡◌, ℕ, ◌+◌, Bool, true, false, not, cond, List, [], ◌∷◌, Some, None, count_by, Option, ◌≢◌, nat_eq}
 use Rattle.std.specs.List.{ContainsAt, AllByRecursion}
+use Rattle.std.specs.declared.cmp.Ordering.{Ordering}
+use Rattle.std.specs.Ordering.{is_lt}
+
+abbrev pub before : {X : Type 0} → (X → X → Ordering) → X → X → Bool
+before cmp a b = is_lt (cmp a b)
+
+pub record StrictOrder {X : Type 0} (before : X → X → Bool) : Type 0 where
+  pub strict : (x : X) → before x x ≡ false
+  pub transitive : (x y z : X) → before x y ≡ true → before y z ≡ true → before x z ≡ true
+  pub decides : (x y : X) → (x ≢ y) → before x y ≡ not (before y x)
 
 abbrev pub ahead : {X : Type 0} → (X → X → Bool) → X → List X → ℕ
 ahead before x xs = count_by (λ y. before y x) xs

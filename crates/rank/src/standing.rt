@@ -1,37 +1,55 @@
 // Standings of accounts, in the order of the ranking.
-ghost use Rattle.rank.specs.Orders.{higher_standing};
-ghost use Rattle.rank.specs.Laws.{standing_strict, standing_transitive, standing_decides};
+ghost use Rattle.std.specs.Prelude.{◌≡◌};
+ghost use Rattle.std.proofs.Common.{rules};
+ghost use Rattle.std.specs.Cmp.{partial_order_from_own_ties};
+ghost use Rattle.std.specs.Cmp.Rules.{comparing};
+ghost use Rattle.std.specs.Ordering.{as_partial_cmp};
+ghost use Rattle.rank.specs.Orders.{standing_cmp, higher_standing};
 
-use crate::order::Order;
+use std::cmp::Ordering;
 
 /// What an account is ranked by.
-#[derive(Clone, Copy)]
+#[derive(Clone, Copy, Debug, PartialEq, Eq)]
 pub struct Standing {
     pub cash: i64,
     pub available: i64,
     pub number: i64,
 }
 
-impl Order for Standing {
-    ghost before = { higher_standing };
+// Not derived: more cash and more credit go first, and `Reverse` in public fields would ask callers to wrap them.
+impl Ord for Standing {
+    ghost cmp = { standing_cmp };
 
-    ghost strict = { λ x. standing_strict x };
+    ghost total = { Prim.search (comparing, rules) };
 
-    ghost transitive = { λ x y z. standing_transitive x y z };
+    ghost matches_partial_cmp = { Prim.search (comparing, rules) };
 
-    ghost decides = { λ x y. standing_decides x y };
+    ghost matches_eq = { Prim.search (comparing, rules) };
 
-    fn precedes(&self, other: &Standing) -> bool {
-        if other.cash < self.cash {
-            true
-        } else if self.cash < other.cash {
-            false
-        } else if other.available < self.available {
-            true
-        } else if self.available < other.available {
-            false
-        } else {
-            self.number < other.number
-        }
+    fn cmp(&self, other: &Standing) -> Ordering {
+        other
+            .cash
+            .cmp(&self.cash)
+            .then(other.available.cmp(&self.available))
+            .then(self.number.cmp(&other.number))
+    }
+}
+
+impl PartialOrd for Standing {
+    ghost partial_cmp = { as_partial_cmp standing_cmp };
+
+    ghost laws = { partial_order_from_own_ties (Prim.search (comparing, rules) depth 7) (Prim.search (comparing, rules)) };
+
+    fn partial_cmp(&self, other: &Standing) -> Option<Ordering> {
+        Some(self.cmp(other))
+    }
+}
+
+impl Standing {
+    /// Whether this standing goes before the other.
+    pub fn precedes(&self, other: &Standing) -> bool
+        ensures { result ≡ higher_standing self.now other.now }
+    {
+        self < other
     }
 }
