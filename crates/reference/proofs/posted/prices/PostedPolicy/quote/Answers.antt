@@ -1,6 +1,9 @@
 -- What the entry of a location has is what the table means there.
-use Rattle.std.proofs.Common.{◌<◌, length, ◌∙◌, w64, rules}
+use Rattle.std.proofs.Common.{◌<◌, length, ap, ◌∙◌, w64, rules}
 use Rattle.std.proofs.lemmas.Int.{to_z-of_z}
+use Rattle.std.specs.Prelude.{ok_or}
+use Rattle.market.specs.declared.fault.Cause.TheVariants.{Missing}
+use Rattle.reference.specs.Prices.{fault}
 use Rattle.reference.proofs.Table.{quoted}
 use Rattle.reference.proofs.posted.prices.PostedPolicy.quote.Goals as goal
 
