@@ -11,6 +11,7 @@ use market::fault::Fault;
 use market::words::Layer;
 
 /// Up to 64 locations and 2,209 hours; for each a day-ahead price, then for each an average.
+// The market's bounds have 64 bits, a list's numbers 32, its sizes 8 and 16: each bound fits.
 const HISTORY: Layout = Layout {
     layer: Layer::Policy,
     rows: LOCATIONS as u8,
