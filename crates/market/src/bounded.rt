@@ -42,7 +42,7 @@ impl<const BELOW: u32, const ABOVE: u32> Model for Bounded<BELOW, ABOVE> {
 }
 
 impl<const BELOW: u32, const ABOVE: u32> Bounded<BELOW, ABOVE> {
-    /// This number, held to the bounds; none where it lies outside of them.
+    /// This number as one within the bounds; none where it lies outside of them.
     pub fn new(value: i64) -> Option<Self>
         ensures within { IsSome result ↔ ((neg_ℤ (pos BELOW) ≤ℤ value) × (value ≤ℤ pos ABOVE)) }
         ensures same { IfSome result (λ b. b ≡ value) }
