@@ -23,11 +23,11 @@ Passed m l c = Yes (questions m l c)
 pub passed : (qs : List (Option Fault)) → first_no qs ≡ None → Yes qs
 passed [] e = tt
 passed (None ∷ qs) e = (refl, passed qs e)
-passed (Some f ∷ qs) e = absurd (let z : ◌≡◌ {A = ℕ} 0 1 = cc in omega arith)
+passed (Some f ∷ qs) e = absurd cc
 
 pub asked : (f : Fault) (b : Bool) → ask f b ≡ None → b ≡ true
 asked f true e = refl
-asked f false e = absurd (let z : ◌≡◌ {A = ℕ} 0 1 = cc in omega arith)
+asked f false e = absurd cc
 
 pub each_so : (fault_at : ℤ → Fault) (n : ℤ) (bs : List Bool) → ask_each fault_at n bs ≡ None → AllByRecursion (λ b. b ≡ true) bs
 each_so fault_at n [] e = tt
@@ -37,10 +37,10 @@ each_so fault_at n (b ∷ bs) e =
 
 pub none_there : {X : Type 0} (f : X → Fault) (xs : List X) → ask_none f xs ≡ None → xs ≡ []
 none_there f [] e = refl
-none_there f (x ∷ xs) e = absurd (let z : ◌≡◌ {A = ℕ} 0 1 = cc in omega arith)
+none_there f (x ∷ xs) e = absurd cc
 
 pub clash : (b : Bool) → b ≡ true → b ≡ false → ⊥
-clash b e f = let z : ◌≡◌ {A = ℕ} 0 1 = cc in omega arith
+clash b e f = cc
 
 pub by_test : {P : Type 0} (b : Bool) → (b ≡ true → P) → (b ≡ false → P) → P
 by_test true f g = f refl
@@ -81,7 +81,7 @@ changed P false b s f p = p
 
 -- the first of a list has what each has
 pub first_has : {X : Type 0} (P : X → Type 0) (xs : List X) (x : X) → first xs ≡ Some x → AllByRecursion P xs → P x
-first_has P [] x e a = absurd (let z : ◌≡◌ {A = ℕ} 0 1 = cc in omega arith)
+first_has P [] x e a = absurd cc
 first_has P (y ∷ ys) x e a = let h : y ≡ x = cc in subst P h a.0
 
 pub found_has : {X : Type 0} (P : X → Type 0) (test : X → Bool) (xs : List X) (x : X)

@@ -116,7 +116,7 @@ module _ {X : Type 0} (p : X → Bool) (f : X → ℤ) where
   pub sum_spent : (mark : X → Bool) (xs : List X) (x : X) → AllByRecursion (λ x. pos 0 ≤ℤ f x) xs
       → first (filter mark xs) ≡ Some x
       → (sum_if p f (filter (λ x. not (mark x)) xs) +ℤ cond (p x) (f x) (pos 0)) ≤ℤ sum_if p f xs
-  sum_spent mark [] x a e = absurd (let z : ◌≡◌ {A = ℕ} 0 1 = cc in omega arith)
+  sum_spent mark [] x a e = absurd cc
   sum_spent mark (y ∷ xs) x a e =
       spent_one x (mark y) y (filter mark xs) (filter (λ x. not (mark x)) xs) (sum_if p f xs) a.0
       (sum_shrunk (λ x. not (mark x)) xs a.1) (sum_spent mark xs x a.1) e
