@@ -1,5 +1,5 @@
 -- An award is the end of the last segment that is met.
-use Rattle.std.proofs.Common.{◌≡◌, ℕ, Bool, true, false, cond, List, [], ◌∷◌, ℤ, Some, None, filter, refl, ap, arith}
+use Rattle.std.proofs.Common.{◌≡◌, Bool, true, false, cond, List, [], ◌∷◌, ℤ, Some, None, filter, refl, ap}
 use Rattle.std.specs.List.{AllByRecursion}
 use Rattle.market.specs.declared.segment.Segment.{Segment}
 use Rattle.rules.specs.Awards.{is_met, last_end}
@@ -54,7 +54,7 @@ module _ (p : Segment → Bool) where
   last_one false s xs q t e ih = more s xs q (ih e)
 
   pub last_kept : (xs : List Segment) (q : ℤ) → last_end (filter p xs) ≡ Some q → LastOf p xs q
-  last_kept [] q e = absurd cc
+  last_kept [] q e = cc
   last_kept (s ∷ xs) q e = last_one (p s) s xs q refl e (last_kept xs q)
 
 pub award_law : AwardLaw

@@ -23,11 +23,11 @@ Passed m l c = Yes (questions m l c)
 pub passed : (qs : List (Option Fault)) → first_no qs ≡ None → Yes qs
 passed [] e = tt
 passed (None ∷ qs) e = (refl, passed qs e)
-passed (Some f ∷ qs) e = absurd cc
+passed (Some f ∷ qs) e = cc
 
 pub asked : (f : Fault) (b : Bool) → ask f b ≡ None → b ≡ true
 asked f true e = refl
-asked f false e = absurd cc
+asked f false e = cc
 
 pub each_so : (fault_at : ℤ → Fault) (n : ℤ) (bs : List Bool) → ask_each fault_at n bs ≡ None → AllByRecursion (λ b. b ≡ true) bs
 each_so fault_at n [] e = tt
@@ -37,7 +37,7 @@ each_so fault_at n (b ∷ bs) e =
 
 pub none_there : {X : Type 0} (f : X → Fault) (xs : List X) → ask_none f xs ≡ None → xs ≡ []
 none_there f [] e = refl
-none_there f (x ∷ xs) e = absurd cc
+none_there f (x ∷ xs) e = cc
 
 pub clash : (b : Bool) → b ≡ true → b ≡ false → ⊥
 clash b e f = cc
@@ -81,7 +81,7 @@ changed P false b s f p = p
 
 -- the first of a list has what each has
 pub first_has : {X : Type 0} (P : X → Type 0) (xs : List X) (x : X) → first xs ≡ Some x → AllByRecursion P xs → P x
-first_has P [] x e a = absurd cc
+first_has P [] x e a = cc
 first_has P (y ∷ ys) x e a = let h : y ≡ x = cc in subst P h a.0
 
 pub found_has : {X : Type 0} (P : X → Type 0) (test : X → Bool) (xs : List X) (x : X)

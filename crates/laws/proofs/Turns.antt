@@ -59,7 +59,7 @@ missing (Some x) e f = cc
 entered_hold : (l : Ledger) (k t : ℤ) (s : Side) (q : ℤ) (r : Result ℤ PolicyFault) → has_price t r ≡ None
     → (with_hold l k t s q r).holds.next ≡ l.holds.next +ℤ pos 1
 entered_hold l k t s q (Ok price) e = refl
-entered_hold l k t s q (Err fault) e = absurd cc
+entered_hold l k t s q (Err fault) e = cc
 
 accounts_turn : (m : Prices) (l : Ledger) (c : Call) → Passed m l c → Turn 1 (λ l. l.accounts.next) m l c
 accounts_turn m l (open_account e k) p = inr (refl, refl)
