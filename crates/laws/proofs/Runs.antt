@@ -1,6 +1,7 @@
 -- What each call keeps that goes through, every run keeps.
-use Rattle.std.proofs.Common.{◌≡◌, ℕ, suc, ◌≤◌, Bool, true, false, cond, not, ◌&&◌, List, [], ◌∷◌, map, length, ℤ, pos, ◌+ℤ◌, Some, None, Ok, Err, filter, Option, Result, sym, refl, ap, subst, arith}
+use Rattle.std.proofs.Common.{◌≡◌, ◌≤◌, Bool, true, false, cond, not, ◌&&◌, List, [], ◌∷◌, map, length, ℤ, pos, ◌+ℤ◌, Some, None, Ok, Err, filter, Option, Result, sym, refl, ap, subst}
 use Rattle.std.specs.List.{AllByRecursion}
+use Rattle.std.proofs.lemmas.List.Sums.{length-filter, count_by-le-length}
 use Rattle.std.proofs.ByRecursion.{all_kept_by, All-map, All-weaker}
 use Rattle.market.specs.declared.words.Side.{Side}
 use Rattle.market.specs.declared.fault.Fault.{Fault}
@@ -101,14 +102,8 @@ pub and_left : (a b : Bool) → (a && b) ≡ true → a ≡ true
 and_left true b e = refl
 and_left false b e = e
 
-kept_shorter_one : {X : Type 0} (t : Bool) (x : X) (ks : List X) (n : ℕ) → length ks ≤ n
-    → length (cond t (x ∷ ks) ks) ≤ suc n
-kept_shorter_one true x ks n h = omega arith
-kept_shorter_one false x ks n h = omega arith
-
 pub kept_shorter : {X : Type 0} (p : X → Bool) (xs : List X) → length (filter p xs) ≤ length xs
-kept_shorter p [] = omega arith
-kept_shorter p (x ∷ xs) = kept_shorter_one (p x) x (filter p xs) (length xs) (kept_shorter p xs)
+kept_shorter p xs = rw length-filter (count_by-le-length p xs)
 
 -- a call that goes through enters what it says
 pub went : (m : Prices) (l : Ledger) (c : Call) → refusal_of m l c ≡ None → move_by m l c ≡ enter m l c
