@@ -7,6 +7,6 @@ ghost use Rattle.figures.specs.Figures.{AllFigures};
 pub fn all_figures_hold()
     ensures { AllFigures }
 {
-    let _ = reference::figures::figures_hold();
+    reference::figures::figures_hold();
     rules::figures::figures_hold();
 }

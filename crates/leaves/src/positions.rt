@@ -40,6 +40,7 @@ pub fn is_within(
 ) -> bool
     ensures { result ≡ is_within percentage limit (position +ℤ highest) }
 {
+    // A match and no `is_none_or`: its closure would need a contract of its own.
     match percentage {
         None => true,
         Some(percent) => {
