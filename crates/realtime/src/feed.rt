@@ -4,7 +4,6 @@ ghost use Rattle.realtime.specs.Feeds.{Stands, Priced};
 
 pub mod check;
 pub mod opening;
-mod prices;
 pub mod reading;
 
 use lists::layout::Sizes;

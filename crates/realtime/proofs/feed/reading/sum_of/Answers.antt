@@ -3,7 +3,7 @@ use Rattle.std.proofs.Common.{get_or, pos, arith, w32, SFits, rules}
 use Rattle.std.proofs.lemmas.Int.{ints}
 use Rattle.lists.specs.Lists.{num}
 use Rattle.realtime.proofs.Sums.{summed_more}
-use Rattle.realtime.proofs.feed.prices.sum_of.Goals as goal
+use Rattle.realtime.proofs.feed.reading.sum_of.Goals as goal
 
 pub loop-price-preserved : goal.loop-price-preserved
 loop-price-preserved c =

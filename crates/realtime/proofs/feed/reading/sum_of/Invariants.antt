@@ -2,7 +2,7 @@
 use Rattle.std.proofs.Common.{◌≡◌, ◌*◌, pos, neg_ℤ, ◌≤ℤ◌}
 use Rattle.lists.specs.Lists.{num}
 use Rattle.realtime.specs.Feeds.{summed}
-use Rattle.realtime.proofs.feed.prices.sum_of.Given as goal
+use Rattle.realtime.proofs.feed.reading.sum_of.Given as goal
 
 abbrev pub invariant-loop-price : goal.invariant-loop-price
 invariant-loop-price l = record {

@@ -2,7 +2,7 @@
 use Rattle.std.proofs.Common.{ℤ, ◌*ℤ◌, sym, ap, ◌∙◌, subst, w64, SFits, rules}
 use Rattle.std.proofs.lemmas.Int.{to_z-of_z}
 use Rattle.realtime.proofs.Sums.{weighed_fits}
-use Rattle.realtime.proofs.feed.prices.in_twelfths.Goals as goal
+use Rattle.realtime.proofs.feed.reading.in_twelfths.Goals as goal
 
 fits : (c : goal.After-weight_of) → SFits w64 (c.weight_of.result *ℤ c.args.sum)
 fits c =
