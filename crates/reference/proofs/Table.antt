@@ -1,5 +1,5 @@
 -- One entry of a posted table is written: what is asked of it is what was written, and all else is as it was. Assumes nothing.
-use Rattle.std.proofs.Common.{◌≡◌, ℕ, zero, suc, ◌-◌, ◌<◌, Bool, true, ◌&&◌, get_or, false, cond, List, [], ◌∷◌, length, set, replicate, ℤ, pos, negsuc, nat_abs, Some, None, Ok, Err, Option, sym, refl, ap, ◌∙◌, subst, ⊎_elim, arith}
+use Rattle.std.proofs.Common.{◌≡◌, ℕ, zero, suc, ◌-◌, ◌<◌, true, ◌&&◌, get_or, cond, List, [], ◌∷◌, length, set, replicate, ℤ, pos, nat_abs, Some, None, Ok, Err, Option, sym, refl, ap, ◌∙◌, ⊎_elim, arith}
 use Rattle.std.specs.Prelude.{slice_get, eqb, int_le, ok_or, ◌≢◌}
 use Rattle.std.proofs.lemmas.Int.{ints}
 use Rattle.std.proofs.lemmas.Option.{slice_get-get_or}
@@ -84,5 +84,5 @@ module _ (es : List Entry) (l : ℤ) (i : ℕ) (d : Entry) (in_it : in_table l �
         and_from (in_table l) (in_reference z) in_it fits,
         ap (λ ys. posted_price ys l side) written ∙ posted_here es l e in_it w side z new,
         λ k t other. ap (λ ys. posted_price ys k t) written ∙ posted_elsewhere es l e in_it w k t
-        (λ p. kept t (other p) ∙ sym (ap (entry_price t) there)),
+            (λ p. kept t (other p) ∙ sym (ap (entry_price t) there)),
       )

@@ -3,7 +3,7 @@
 --   spreads_to side averages prices n  the spreads of hours 1 to n, with their hours
 --   PriceOf side averages prices p     p is the spread of the percentile's rank among those of all hours
 --   reference_price side averages prices  that spread, computed
---   Hours averages prices              1 to 2,209 hours, with an average and a day-ahead price for each
+--   HasHours averages prices           1 to 2,209 hours, with an average and a day-ahead price for each
 --   Referenced side averages prices r  r is that spread, or none where there are no such hours
 use Rattle.std.specs.Prelude.{◌≡◌, ℕ, zero, suc, ◌<◌, ◌≤◌, List, [], ◌∷◌, ◌++◌, length, ℤ, pos, ◌-ℤ◌, ◌*ℤ◌, neg_ℤ, Some, None, Option, slice_index_or}
 use Rattle.market.specs.declared.words.Side.{Side}
@@ -40,9 +40,9 @@ abbrev pub reference_price : Side → List ℤ → List ℤ → ℤ
 reference_price side averages prices =
     value_in (at_rank lower_spread (spreads_to side averages prices (length averages)) (percentile_rank (length averages)))
 
-abbrev pub Hours : List ℤ → List ℤ → Type 0
-Hours averages prices = (0 < length averages) × (length averages ≤ 2209) × (length prices ≡ length averages)
+abbrev pub HasHours : List ℤ → List ℤ → Type 0
+HasHours averages prices = (0 < length averages) × (length averages ≤ 2209) × (length prices ≡ length averages)
 
 abbrev pub Referenced : Side → List ℤ → List ℤ → Option ℤ → Type 0
-Referenced side averages prices (Some p) = Hours averages prices × PriceOf side averages prices p × (p ≡ reference_price side averages prices)
-Referenced side averages prices None = Hours averages prices → ⊥
+Referenced side averages prices (Some p) = HasHours averages prices × PriceOf side averages prices p × (p ≡ reference_price side averages prices)
+Referenced side averages prices None = HasHours averages prices → ⊥

@@ -2,8 +2,6 @@
 ghost use Rattle.reference.specs.Figures.{Figures};
 
 /// The worked figures hold of the definitions.
-pub fn figures_hold() -> u8
+pub fn figures_hold()
     ensures { Figures }
-{
-    0
-}
+{}

@@ -3,6 +3,7 @@
 
 pub mod figures;
 pub mod history;
+mod hours;
 pub mod percentile;
 pub mod policy;
 pub mod posted;

@@ -1,12 +1,15 @@
 // The 95th percentile of an hour's spreads (section 12.8.2): their values by side, and the one of the rank.
-ghost use Rattle.std.specs.Prelude.{◌≡◌, ◌<◌, ◌≤◌, length, take};
+ghost use Rattle.std.specs.Prelude.{◌≡◌, ◌≤◌, map};
+ghost use Rattle.std.specs.List.{range_with_len};
 ghost use Rattle.reference.specs.Percentile.{PercentileRank, percentile_rank};
-ghost use Rattle.reference.specs.Spreads.{spread_of, spreads_to, PriceOf, reference_price, Referenced};
+ghost use Rattle.reference.specs.Spreads.{spread_of, dated_spread, PriceOf, reference_price, Referenced};
 
+use crate::hours::Hours;
 use market::bounds::Rate;
 use market::words::Side;
 use rank::pick::pick;
 use rank::spread::DatedSpread;
+use std::array;
 
 /// The hours of three months, one of them with a day of 25 hours.
 pub const HOURS_OF_HISTORY: usize = 2209;
@@ -17,47 +20,52 @@ fn percentile_rank(n: usize) -> usize
     ensures least { PercentileRank n result }
     ensures value { result ≡ percentile_rank n }
 {
-    (19 * n + 19) / 20
+    (19 * n).div_ceil(20)
 }
 
 /// The average less 12 × the day-ahead price, or for demand its negative.
 fn spread_of(side: Side, average: i32, day_ahead: i32) -> i64
     ensures { result ≡ spread_of side average day_ahead }
 {
-    let supply = average as i64 - 12 * day_ahead as i64;
+    let supply = i64::from(average) - 12 * i64::from(day_ahead);
     match side {
         Side::Supply => supply,
         Side::Demand => -supply,
     }
 }
 
-/// Writes the dated spreads of the hours, from the first on.
-fn fill(spreads: &mut [DatedSpread], side: Side, averages: &[i32], day_ahead: &[i32])
-    requires { (length averages.now ≤ length spreads.old) × ((length averages.now ≤ 2209) × (length day_ahead.now ≡ length averages.now)) }
-    ensures { take (length averages.now) spreads.new ≡ spreads_to side averages.now day_ahead.now (length averages.now) }
-{
-    for i in 0..averages.len() {
-        spreads[i] = DatedSpread {
-            value: spread_of(side, averages[i], day_ahead[i]),
-            hour: (i + 1) as i64,
-        };
+impl Hours<'_> {
+    /// The spread of the hour of this index; past the last hour it is one of zeros.
+    fn dated_spread(&self, side: Side, index: usize) -> DatedSpread
+        requires { index ≤ 2209 }
+        ensures { result ≡ dated_spread side self.now.averages.now self.now.day_ahead.now index }
+    {
+        let average = self.averages.get(index).copied().unwrap_or(0);
+        let day_ahead = self.day_ahead.get(index).copied().unwrap_or(0);
+        DatedSpread {
+            value: spread_of(side, average, day_ahead),
+            hour: index as i64 + 1,
+        }
     }
-}
 
-/// The spread of the percentile's rank among those of the hours, of which there is one at least.
-fn percentile_spread(side: Side, averages: &[i32], day_ahead: &[i32]) -> Rate
-    requires some { 0 < length averages.now }
-    requires few { length averages.now ≤ 2209 }
-    requires paired { length day_ahead.now ≡ length averages.now }
-    ensures of_its_rank { PriceOf side averages.now day_ahead.now result }
-    ensures value { result ≡ reference_price side averages.now day_ahead.now }
-{
-    let mut spreads = [DatedSpread { value: 0, hour: 0 }; HOURS_OF_HISTORY];
-    fill(&mut spreads, side, averages, day_ahead);
-    let rank = percentile_rank(averages.len());
-    match pick(&spreads[0..averages.len()], rank) {
-        Some(spread) => spread.value,
-        None => unreachable(),
+    /// The spreads of the hours from the first on, and behind the last hour those of zeros, up to the most hours.
+    // An array of fixed size, since a policy is given no allocator.
+    fn spreads(&self, side: Side) -> [DatedSpread; HOURS_OF_HISTORY]
+        ensures { result ≡ map (dated_spread side self.now.averages.now self.now.day_ahead.now) (range_with_len 0 2209) }
+    {
+        array::from_fn(|index| self.dated_spread(side, index))
+    }
+
+    /// The spread of the percentile's rank among those of the hours.
+    fn price(&self, side: Side) -> Rate
+        ensures of_its_rank { PriceOf side self.now.averages.now self.now.day_ahead.now result }
+        ensures value { result ≡ reference_price side self.now.averages.now self.now.day_ahead.now }
+    {
+        let hours = self.averages.len();
+        match pick(&self.spreads(side)[..hours], percentile_rank(hours)) {
+            Some(spread) => spread.value,
+            None => unreachable!(),
+        }
     }
 }
 
@@ -65,9 +73,6 @@ fn percentile_spread(side: Side, averages: &[i32], day_ahead: &[i32]) -> Rate
 pub fn reference_price(side: Side, averages: &[i32], day_ahead: &[i32]) -> Option<Rate>
     ensures { Referenced side averages.now day_ahead.now result }
 {
-    let hours = averages.len();
-    if hours == 0 || hours > HOURS_OF_HISTORY || day_ahead.len() != hours {
-        return None;
-    }
-    Some(percentile_spread(side, averages, day_ahead))
+    let hours = Hours::new(averages, day_ahead)?;
+    Some(hours.price(side))
 }

@@ -1,15 +1,14 @@
-// The mark and the prices of a cell, and their average in twelfths.
+// The mark and the prices of a cell, and a sum of prices in twelfths.
 ghost use Rattle.std.specs.Prelude.{◌≡◌, ◌+◌, ◌*◌, ◌^◌, ◌<◌, ◌≤◌, length, take, drop, pos, ◌*ℤ◌, neg_ℤ, ◌≤ℤ◌};
 ghost use Rattle.lists.specs.Lists.{num};
-ghost use Rattle.realtime.specs.Feeds.{summed, published, weight, average as average_of};
+ghost use Rattle.realtime.specs.Feeds.{summed, published, weight};
 
 use super::{Feed, PUBLISHED};
-use market::bounds::Rate;
 
 const TWELFTHS: u8 = 12; // of an hour, each of five minutes
 
 /// The sum of fewer than 256 prices.
-fn sum_of(prices: &[i32]) -> i64
+pub(super) fn sum_of(prices: &[i32]) -> i64
     requires { length prices.now < 2 ^ 8 }
     ensures value { result ≡ summed (num prices.now) (length prices.now) }
     ensures low { neg_ℤ (pos (2 ^ 40)) ≤ℤ result }
@@ -30,7 +29,7 @@ fn weight_of(per: u8) -> i64
 }
 
 /// A sum of prices in twelfths: each of `per` prices counts as often as it stands for a twelfth of an hour.
-fn in_twelfths(sum: i64, per: u8) -> i64
+pub(super) fn in_twelfths(sum: i64, per: u8) -> i64
     requires low { neg_ℤ (pos (2 ^ 40)) ≤ℤ sum }
     requires high { sum ≤ℤ pos (2 ^ 40) }
     ensures { result ≡ pos (weight per) *ℤ sum }
@@ -48,7 +47,7 @@ impl<const PER: u8> Feed<'_, PER> {
     }
 
     /// The prices of a cell, behind the marks of all cells.
-    fn prices(&self, cell: usize) -> &[i32]
+    pub(super) fn prices(&self, cell: usize) -> &[i32]
         requires { cell < self.now.sizes.rows * self.now.sizes.columns }
         ensures value { result.now ≡ take PER (drop (2 + self.now.sizes.rows * self.now.sizes.columns + cell * PER) self.now.list.now) }
         ensures len { length result.now ≡ PER }
@@ -56,13 +55,5 @@ impl<const PER: u8> Feed<'_, PER> {
         let per = usize::from(PER);
         let first = 2 + self.sizes.cells() + cell * per;
         &self.list[first..first + per]
-    }
-
-    /// The average of a cell.
-    pub(super) fn average_of(&self, cell: usize) -> Rate
-        requires { cell < self.now.sizes.rows * self.now.sizes.columns }
-        ensures { result ≡ average_of PER self.now.list.now (self.now.sizes.rows * self.now.sizes.columns) cell }
-    {
-        in_twelfths(sum_of(self.prices(cell)), PER)
     }
 }

@@ -3,6 +3,7 @@ ghost use Rattle.realtime.specs.Bounds.{feed_averaged};
 ghost use Rattle.realtime.specs.Feeds.{feed_meaning};
 
 use super::Feed;
+use super::prices::{in_twelfths, sum_of};
 use crate::source::Source;
 use market::bounds::{Hour, Number, Rate};
 use market::fault::{Cause, SourceFault};
@@ -25,6 +26,6 @@ impl<'a, const PER: u8> Source for Feed<'a, PER> {
                 location,
             });
         }
-        Ok(self.average_of(cell))
+        Ok(in_twelfths(sum_of(self.prices(cell)), PER))
     }
 }

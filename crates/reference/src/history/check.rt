@@ -40,7 +40,8 @@ impl<'a> History<'a> {
         requires { Passed history_layout list.now sizes }
         ensures { Holds list.now sizes result }
     {
-        let (day_ahead, averages) = list[2..].split_at(sizes.cells());
+        let (_, numbers) = list.split_at(2);
+        let (day_ahead, averages) = numbers.split_at(sizes.cells());
         History {
             sizes,
             day_ahead,
@@ -63,9 +64,9 @@ impl<'a> History<'a> {
     pub fn over(list: &'a [i32]) -> History<'a>
         ensures { HistoryOver list.now result }
     {
-        match check_history(list) {
-            Ok(sizes) => History::read(list, sizes),
-            Err(_) => History::nothing(),
-        }
+        let Ok(sizes) = check_history(list) else {
+            return History::nothing();
+        };
+        History::read(list, sizes)
     }
 }

@@ -75,7 +75,8 @@ impl Posted {
         if !is_reference(price) {
             return Err(refused);
         }
-        self.entries[i] = self.entries[i].with(side, price);
+        let entry = &mut self.entries[i];
+        *entry = entry.with(side, price);
         Ok(())
     }
 }

@@ -1,5 +1,5 @@
 -- The entry that is written has the price, and the others are as they were.
-use Rattle.std.proofs.Common.{◌≡◌, ◌<◌, length, Some, sym, ap, ◌∙◌, w64, rules}
+use Rattle.std.proofs.Common.{◌<◌, length, sym, ◌∙◌, w64, rules}
 use Rattle.std.proofs.lemmas.Int.{to_z-of_z}
 use Rattle.reference.proofs.Table.{posted_one}
 use Rattle.reference.proofs.posted.Posted.post.Goals as goal
