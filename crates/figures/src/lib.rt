@@ -4,9 +4,9 @@
 ghost use Rattle.figures.specs.Figures.{AllFigures};
 
 /// The figures of reference prices and of the day hold, by the definitions.
-pub fn all_figures_hold() -> u8
+pub fn all_figures_hold()
     ensures { AllFigures }
 {
-    let _ = reference::figures::figures_hold();
-    rules::figures::figures_hold()
+    reference::figures::figures_hold();
+    rules::figures::figures_hold();
 }

@@ -1,12 +1,12 @@
 -- An award is the end of the last segment that is met.
-use Rattle.std.proofs.Common.{◌≡◌, ℕ, Bool, true, false, cond, List, [], ◌∷◌, ℤ, Some, None, filter, refl, ap, arith}
+use Rattle.std.proofs.Common.{◌≡◌, Bool, true, false, cond, List, [], ◌∷◌, ℤ, Some, None, filter, refl, ap}
 use Rattle.std.specs.List.{AllByRecursion}
 use Rattle.market.specs.declared.segment.Segment.{Segment}
 use Rattle.rules.specs.Awards.{is_met, last_end}
 use Rattle.laws.specs.Awarding.{LastOf, AwardLaw}
 
 some_end : (s : Segment) (ks : List Segment) → last_end (s ∷ ks) ≡ None → ⊥
-some_end s [] e = let z : ◌≡◌ {A = ℕ} 0 1 = cc in omega arith
+some_end s [] e = cc
 some_end s (k ∷ ks) e = some_end k ks e
 
 module _ (p : Segment → Bool) where
@@ -54,7 +54,7 @@ module _ (p : Segment → Bool) where
   last_one false s xs q t e ih = more s xs q (ih e)
 
   pub last_kept : (xs : List Segment) (q : ℤ) → last_end (filter p xs) ≡ Some q → LastOf p xs q
-  last_kept [] q e = absurd (let z : ◌≡◌ {A = ℕ} 0 1 = cc in omega arith)
+  last_kept [] q e = cc
   last_kept (s ∷ xs) q e = last_one (p s) s xs q refl e (last_kept xs q)
 
 pub award_law : AwardLaw

@@ -1,5 +1,5 @@
 -- A bid is booked exactly when its questions all say yes, and then only its hold is spent and only it is entered.
-use Rattle.std.proofs.Common.{◌≡◌, ℕ, Bool, true, false, cond, not, List, [], ◌∷◌, ◌++◌, ℤ, pos, ◌+ℤ◌, ◌≤ℤ◌, is_some, Some, None, filter, Option, sym, refl, ap, subst, arith}
+use Rattle.std.proofs.Common.{◌≡◌, Bool, true, false, cond, not, List, [], ◌∷◌, ◌++◌, ℤ, pos, ◌+ℤ◌, ◌≤ℤ◌, is_some, Some, None, filter, Option, sym, refl, ap, subst, arith}
 use Rattle.std.specs.List.{AllByRecursion}
 use Rattle.std.proofs.lemmas.Int.{ints}
 use Rattle.market.specs.declared.segment.Segment.{Segment}
@@ -21,7 +21,7 @@ use Rattle.laws.proofs.Sums.{eq_z_apart, eq_z_true}
 all_yes : (qs : List (Option Fault)) → Yes qs → first_no qs ≡ None
 all_yes [] a = refl
 all_yes (None ∷ qs) a = all_yes qs a.1
-all_yes (Some f ∷ qs) a = absurd (let e = a.0 in let z : ◌≡◌ {A = ℕ} 0 1 = cc in omega arith)
+all_yes (Some f ∷ qs) a = absurd (let e = a.0 in cc)
 
 -- the one hold of a number, among those before and after it
 record Split (n : ℤ) (h : HoldEntry) (xs : List HoldEntry) : Type 0 where
@@ -68,7 +68,7 @@ split_one false n h x xs t up e ih =
 
 split : (n : ℤ) (h : HoldEntry) (from : ℤ) (xs : List HoldEntry) (next : ℤ) → Rising (λ x. x.number) from xs next
     → first (filter (λ x. eq_z x.number n) xs) ≡ Some h → Split n h xs
-split n h from [] next r e = absurd (let z : ◌≡◌ {A = ℕ} 0 1 = cc in omega arith)
+split n h from [] next r e = cc
 split n h from (x ∷ xs) next r e =
     split_one (eq_z x.number n) n h x xs refl (rising_above (λ x. x.number) (x.number +ℤ pos 1) xs next r.1) e
     (split n h (x.number +ℤ pos 1) xs next r.1)
@@ -104,11 +104,11 @@ booked_on m l n h cv r d e =
 -- what an answer tells of the refusal
 numbered_none : (o : Option Fault) (r : Answer) (n : ℤ) → if_some o r refused ≡ numbered n → o ≡ None
 numbered_none None r n e = refl
-numbered_none (Some f) r n e = absurd (let z : ◌≡◌ {A = ℕ} 0 1 = cc in omega arith)
+numbered_none (Some f) r n e = cc
 
 refused_same : (o : Option Fault) (k : ℤ) (l after : Ledger) (f : Fault) → if_some o (numbered k) refused ≡ refused f
     → if_some o after (λ f. l) ≡ l
-refused_same None k l after f e = absurd (let z : ◌≡◌ {A = ℕ} 0 1 = cc in omega arith)
+refused_same None k l after f e = cc
 refused_same (Some g) k l after f e = refl
 
 pub booking_runs : EveryRun BookingLaw

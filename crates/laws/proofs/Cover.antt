@@ -139,7 +139,7 @@ all_amid from (s ∷ rest) z r =
 -- an award is the end of one of the segments
 last_amid : (top : ℤ) (curve : List Segment) (q : ℤ) → AllByRecursion (λ s. Amid top s.end) curve → last_end curve ≡ Some q
     → Amid top q
-last_amid top [] q a e = absurd (let z : ◌≡◌ {A = ℕ} 0 1 = cc in omega arith)
+last_amid top [] q a e = cc
 last_amid top (s ∷ []) q a e = let h : s.end ≡ q = cc in subst (Amid top) h a.0
 last_amid top (s ∷ t ∷ rest) q a e = last_amid top (t ∷ rest) q a.1 e
 
@@ -190,7 +190,7 @@ pushed_longer xs x = let e = length-append xs (x ∷ []) in omega (arith, ints)
 booked_worst : (s : BidStage) (top rate : ℤ) → s ≡ Booked → stage_charge s top rate ≡ stage_worst s top rate
 booked_worst Booked top rate e = refl
 booked_worst (Awarded q) top rate e = refl
-booked_worst (Priced q a) top rate e = absurd (let z : ◌≡◌ {A = ℕ} 0 1 = cc in omega arith)
+booked_worst (Priced q a) top rate e = cc
 booked_worst (Paid q a) top rate e = refl
 
 charged : (l : Ledger) (a : ℤ) → AllByRecursion IsBooked l.bids.entries → charges_of l a ≡ sum_if (held_by a) hold_charge
@@ -262,9 +262,9 @@ same_bid_less a b = (refl, omega (arith, ints))
 booked_more : (s : BidStage) (top rate q : ℤ) → s ≡ Booked → Amid top q → pos 0 ≤ℤ rate
     → (q *ℤ rate) ≤ℤ stage_worst s top rate
 booked_more Booked top rate q e m r = times_more q top rate m.0 m.1 r
-booked_more (Awarded k) top rate q e m r = absurd (let z : ◌≡◌ {A = ℕ} 0 1 = cc in omega arith)
-booked_more (Priced k a) top rate q e m r = absurd (let z : ◌≡◌ {A = ℕ} 0 1 = cc in omega arith)
-booked_more (Paid k a) top rate q e m r = absurd (let z : ◌≡◌ {A = ℕ} 0 1 = cc in omega arith)
+booked_more (Awarded k) top rate q e m r = cc
+booked_more (Priced k a) top rate q e m r = cc
+booked_more (Paid k a) top rate q e m r = cc
 
 priced_less : (f : ℤ → ℤ) (s : BidStage) (top rate : ℤ) → stage_worst (priced_stage f s) top rate ≤ℤ stage_worst s top
     rate
@@ -696,7 +696,7 @@ covered_runs m day cs a e =
 not_due : (s : BidStage) → s ≡ Booked → is_due s ≡ false
 not_due Booked e = refl
 not_due (Awarded q) e = refl
-not_due (Priced q a) e = absurd (let z : ◌≡◌ {A = ℕ} 0 1 = cc in omega arith)
+not_due (Priced q a) e = cc
 not_due (Paid q a) e = refl
 
 pub credit_runs : EveryRun NeverOverdrawn

@@ -11,7 +11,7 @@ pub mod Once
 pub mod Cash
 pub mod Cover
 pub mod Limits
-pub mod Percent
+pub mod Netted
 pub mod Clearing
 pub mod Book
 pub mod Amounts

@@ -1,5 +1,5 @@
 -- One bid a side, location and hour; one adjustment a constraint and period.
-use Rattle.std.proofs.Common.{◌≡◌, ℕ, Bool, true, false, cond, List, [], ◌∷◌, ◌++◌, map, filter, refl, ◌∙◌, arith}
+use Rattle.std.proofs.Common.{◌≡◌, Bool, true, false, cond, List, [], ◌∷◌, ◌++◌, map, filter, refl, ◌∙◌}
 use Rattle.std.specs.List.{AllByRecursion}
 use Rattle.std.proofs.ByRecursion.{All-push, all_kept_by, All-map, All-weaker}
 use Rattle.market.specs.Letters.{side_named, class_named, period_named}
@@ -45,7 +45,7 @@ module _ {X : Type 0} (alike : X → X → Bool) where
 none_kept : {X : Type 0} (p : X → Bool) (xs : List X) → filter p xs ≡ [] → AllByRecursion (λ x. p x ≡ false) xs
 none_kept p [] e = tt
 none_kept {X} p (x ∷ xs) e = by_test (p x)
-    (λ t. let k : x ∷ filter p xs ≡ [] = rw t at e in absurd (let z : ◌≡◌ {A = ℕ} 0 1 = cc in omega arith))
+    (λ t. let k : x ∷ filter p xs ≡ [] = rw t at e in cc)
     (λ t. let k : filter p xs ≡ [] = rw t at e in (t, none_kept p xs k))
 
 -- a bid changed in its stage is the same bid

@@ -18,11 +18,9 @@ place_pushed d xs x (negsuc n) e = refl
 
 pub place_set_same : {X : Type 0} (d : X) (xs : List X) (x : X) (a : ℤ) → inside (pos 1) (count_of xs) a ≡ true
     → at_place d (replaced xs a x) a ≡ x
-place_set_same d xs x (pos zero) e = absurd (let h = inside_out (pos 1) (count_of xs) (pos zero) e in
-    omega (arith, ints, h.0))
+place_set_same d xs x (pos zero) e = cc
 place_set_same d xs x (pos (suc n)) e = get_or-set_same xs n x d (below n (length xs) e)
-place_set_same d xs x (negsuc n) e = absurd (let h = inside_out (pos 1) (count_of xs) (negsuc n) e in
-    omega (arith, ints, h.0))
+place_set_same d xs x (negsuc n) e = cc
 
 pub place_set_other : {X : Type 0} (d : X) (xs : List X) (x : X) (a b : ℤ) → (b ≡ a → ⊥)
     → at_place d (replaced xs a x) b ≡ at_place d xs b
@@ -35,11 +33,9 @@ place_set_other d xs x (pos (suc i)) (negsuc j) n = refl
 
 pub place_all : {X : Type 0} (P : X → Type 0) (d : X) (xs : List X) (a : ℤ) → AllByRecursion P xs
     → inside (pos 1) (count_of xs) a ≡ true → P (at_place d xs a)
-place_all P d xs (pos zero) all e = absurd (let h = inside_out (pos 1) (count_of xs) (pos zero) e in
-    omega (arith, ints, h.0))
+place_all P d xs (pos zero) all e = cc
 place_all P d xs (pos (suc n)) all e = All-get_or P xs n d (below n (length xs) e) all
-place_all P d xs (negsuc n) all e = absurd (let h = inside_out (pos 1) (count_of xs) (negsuc n) e in
-    omega (arith, ints, h.0))
+place_all P d xs (negsuc n) all e = cc
 
 pub replaced_long : {X : Type 0} (xs : List X) (a : ℤ) (x : X) → length (replaced xs a x) ≡ length xs
 replaced_long xs (pos zero) x = refl

@@ -273,10 +273,8 @@ ranked_with l k a w = eq_z_same (count_of (filter (λ other. goes_before l other
     (pos (suc k)) (omega (arith, ints))
 
 ranks : (l : Ledger) (rank : ℤ) → is_among l.accounts rank ≡ true → Read l rank
-ranks l (negsuc k) e = absurd (let h = inside_out (pos 1) (count_of l.accounts.entries) (negsuc k) e in
-    omega (arith, ints, h.0))
-ranks l (pos zero) e = absurd (let h = inside_out (pos 1) (count_of l.accounts.entries) (pos zero) e in
-    omega (arith, ints, h.0))
+ranks l (negsuc k) e = cc
+ranks l (pos zero) e = cc
 ranks l (pos (suc k)) e =
     let n = length l.accounts.entries in
     let h = inside_out (pos 1) (pos n) (pos (suc k)) e in

@@ -1,6 +1,7 @@
 -- What each call keeps that goes through, every run keeps.
-use Rattle.std.proofs.Common.{◌≡◌, ℕ, suc, ◌≤◌, Bool, true, false, cond, not, ◌&&◌, List, [], ◌∷◌, map, length, ℤ, pos, ◌+ℤ◌, Some, None, Ok, Err, filter, Option, Result, sym, refl, ap, subst, arith}
+use Rattle.std.proofs.Common.{◌≡◌, ◌≤◌, Bool, true, false, cond, not, ◌&&◌, List, [], ◌∷◌, map, length, ℤ, pos, ◌+ℤ◌, Some, None, Ok, Err, filter, Option, Result, sym, refl, ap, subst}
 use Rattle.std.specs.List.{AllByRecursion}
+use Rattle.std.proofs.lemmas.List.Sums.{length-filter, count_by-le-length}
 use Rattle.std.proofs.ByRecursion.{all_kept_by, All-map, All-weaker}
 use Rattle.market.specs.declared.words.Side.{Side}
 use Rattle.market.specs.declared.fault.Fault.{Fault}
@@ -23,11 +24,11 @@ Passed m l c = Yes (questions m l c)
 pub passed : (qs : List (Option Fault)) → first_no qs ≡ None → Yes qs
 passed [] e = tt
 passed (None ∷ qs) e = (refl, passed qs e)
-passed (Some f ∷ qs) e = absurd (let z : ◌≡◌ {A = ℕ} 0 1 = cc in omega arith)
+passed (Some f ∷ qs) e = cc
 
 pub asked : (f : Fault) (b : Bool) → ask f b ≡ None → b ≡ true
 asked f true e = refl
-asked f false e = absurd (let z : ◌≡◌ {A = ℕ} 0 1 = cc in omega arith)
+asked f false e = cc
 
 pub each_so : (fault_at : ℤ → Fault) (n : ℤ) (bs : List Bool) → ask_each fault_at n bs ≡ None → AllByRecursion (λ b. b ≡ true) bs
 each_so fault_at n [] e = tt
@@ -37,10 +38,10 @@ each_so fault_at n (b ∷ bs) e =
 
 pub none_there : {X : Type 0} (f : X → Fault) (xs : List X) → ask_none f xs ≡ None → xs ≡ []
 none_there f [] e = refl
-none_there f (x ∷ xs) e = absurd (let z : ◌≡◌ {A = ℕ} 0 1 = cc in omega arith)
+none_there f (x ∷ xs) e = cc
 
 pub clash : (b : Bool) → b ≡ true → b ≡ false → ⊥
-clash b e f = let z : ◌≡◌ {A = ℕ} 0 1 = cc in omega arith
+clash b e f = cc
 
 pub by_test : {P : Type 0} (b : Bool) → (b ≡ true → P) → (b ≡ false → P) → P
 by_test true f g = f refl
@@ -81,7 +82,7 @@ changed P false b s f p = p
 
 -- the first of a list has what each has
 pub first_has : {X : Type 0} (P : X → Type 0) (xs : List X) (x : X) → first xs ≡ Some x → AllByRecursion P xs → P x
-first_has P [] x e a = absurd (let z : ◌≡◌ {A = ℕ} 0 1 = cc in omega arith)
+first_has P [] x e a = cc
 first_has P (y ∷ ys) x e a = let h : y ≡ x = cc in subst P h a.0
 
 pub found_has : {X : Type 0} (P : X → Type 0) (test : X → Bool) (xs : List X) (x : X)
@@ -101,14 +102,8 @@ pub and_left : (a b : Bool) → (a && b) ≡ true → a ≡ true
 and_left true b e = refl
 and_left false b e = e
 
-kept_shorter_one : {X : Type 0} (t : Bool) (x : X) (ks : List X) (n : ℕ) → length ks ≤ n
-    → length (cond t (x ∷ ks) ks) ≤ suc n
-kept_shorter_one true x ks n h = omega arith
-kept_shorter_one false x ks n h = omega arith
-
 pub kept_shorter : {X : Type 0} (p : X → Bool) (xs : List X) → length (filter p xs) ≤ length xs
-kept_shorter p [] = omega arith
-kept_shorter p (x ∷ xs) = kept_shorter_one (p x) x (filter p xs) (length xs) (kept_shorter p xs)
+kept_shorter p xs = rw length-filter (count_by-le-length p xs)
 
 -- a call that goes through enters what it says
 pub went : (m : Prices) (l : Ledger) (c : Call) → refusal_of m l c ≡ None → move_by m l c ≡ enter m l c

@@ -1,11 +1,12 @@
 -- No table has more entries than places.
-use Rattle.std.proofs.Common.{◌≡◌, ℕ, suc, ◌<◌, ◌≤◌, Bool, true, ◌&&◌, List, [], ◌∷◌, ◌++◌, map, length, pos, filter, refl, ap, arith, length-append}
+use Rattle.std.proofs.Common.{◌≡◌, ℕ, ◌<◌, ◌≤◌, Bool, true, ◌&&◌, List, [], ◌∷◌, ◌++◌, length, pos, filter, arith, length-append}
 use lib.Signed.{lt_z}
 use Rattle.std.proofs.lemmas.Int.{ints}
+use Rattle.std.proofs.lemmas.List.{length-map}
 use Rattle.market.specs.Letters.{side_named, class_named, period_named}
 use Rattle.rules.specs.Calls.{Prices, Call, open_account, add_location, set_limit, take_hold, release_hold, place_bid, withdraw_bid, close_bidding, clear_hour, price_hour, pay_account, adjust_account}
 use Rattle.rules.specs.Ledger.{Ledger, empty_ledger, hold_numbered}
-use Rattle.rules.specs.Rules.{clear_bid, stays_after, price_bid, pay_bid, enter}
+use Rattle.rules.specs.Rules.{enter}
 use Rattle.laws.specs.Every.{EveryRun}
 use Rattle.laws.specs.Standing.{Sized}
 use Rattle.laws.proofs.Places.{replaced_long}
@@ -19,10 +20,6 @@ one_more xs x k h = let e = length-append xs (x ∷ []) in omega arith
 
 kept_short : {X : Type 0} (p : X → Bool) (xs : List X) (k : ℕ) → length xs ≤ k → length (filter p xs) ≤ k
 kept_short p xs k h = let e = kept_shorter p xs in omega arith
-
-mapped_long : {X Y : Type 0} (f : X → Y) (xs : List X) → length (map f xs) ≡ length xs
-mapped_long f [] = refl
-mapped_long f (x ∷ xs) = ap suc (mapped_long f xs)
 
 size_step : (m : Prices) (l : Ledger) (c : Call) → Passed m l c → Sized m l → Sized m (enter m l c)
 size_step m l (open_account e k) p r =
@@ -83,7 +80,7 @@ size_step m l (clear_hour h ps) p r = record {
   accounts = r.accounts;
   locations = r.locations;
   holds = r.holds;
-  bids = rw (mapped_long (clear_bid h ps) (filter (stays_after h ps) l.bids.entries))
+  bids = rw length-map
       (kept_short _ l.bids.entries 256 r.bids);
 }
 size_step m l (price_hour h d g) p r = record {
@@ -91,14 +88,14 @@ size_step m l (price_hour h d g) p r = record {
   locations = r.locations;
   holds =
       r.holds;
-  bids = rw (mapped_long (price_bid l h d g) l.bids.entries) r.bids;
+  bids = rw length-map r.bids;
 }
 size_step m l (pay_account a) p r = record {
   accounts = r.accounts;
   locations = r.locations;
   holds =
       r.holds;
-  bids = rw (mapped_long (pay_bid a) l.bids.entries) r.bids;
+  bids = rw length-map r.bids;
 }
 size_step m l (adjust_account x) p r = if_some_lem (Sized m) (period_named x.period) l _ (λ _. r)
     (λ d _. record { accounts = r.accounts; locations = r.locations; holds = r.holds; bids = r.bids })

@@ -1,5 +1,5 @@
 -- Sums over the entries of an account: what leaving, changing and entering do to them.
-use Rattle.std.proofs.Common.{◌≡◌, ℕ, ◌*◌, ◌≤◌, Bool, true, false, cond, not, List, [], ◌∷◌, ◌++◌, map, ℤ, pos, negsuc, ◌+ℤ◌, ◌*ℤ◌, ◌≤ℤ◌, Some, filter, refl, ap, subst, mul-le-mul, arith}
+use Rattle.std.proofs.Common.{◌≡◌, ◌*◌, ◌≤◌, Bool, true, false, cond, not, List, [], ◌∷◌, ◌++◌, map, ℤ, pos, negsuc, ◌+ℤ◌, ◌*ℤ◌, ◌≤ℤ◌, Some, filter, refl, ap, subst, mul-le-mul, arith}
 use lib.Signed.{le_z}
 use Rattle.std.specs.List.{AllByRecursion}
 use Rattle.std.proofs.lemmas.Int.{ints}
@@ -116,7 +116,7 @@ module _ {X : Type 0} (p : X → Bool) (f : X → ℤ) where
   pub sum_spent : (mark : X → Bool) (xs : List X) (x : X) → AllByRecursion (λ x. pos 0 ≤ℤ f x) xs
       → first (filter mark xs) ≡ Some x
       → (sum_if p f (filter (λ x. not (mark x)) xs) +ℤ cond (p x) (f x) (pos 0)) ≤ℤ sum_if p f xs
-  sum_spent mark [] x a e = absurd (let z : ◌≡◌ {A = ℕ} 0 1 = cc in omega arith)
+  sum_spent mark [] x a e = cc
   sum_spent mark (y ∷ xs) x a e =
       spent_one x (mark y) y (filter mark xs) (filter (λ x. not (mark x)) xs) (sum_if p f xs) a.0
       (sum_shrunk (λ x. not (mark x)) xs a.1) (sum_spent mark xs x a.1) e

@@ -54,12 +54,12 @@ module _ (table : ℕ) (next_of : Ledger → ℤ) (m : Prices) (turn : (l : Ledg
 
 missing : {X : Type 0} (o : Option X) → is_some o ≡ true → o ≡ None → ⊥
 missing None e f = clash false e refl
-missing (Some x) e f = let z : ◌≡◌ {A = ℕ} 0 1 = cc in omega arith
+missing (Some x) e f = cc
 
 entered_hold : (l : Ledger) (k t : ℤ) (s : Side) (q : ℤ) (r : Result ℤ PolicyFault) → has_price t r ≡ None
     → (with_hold l k t s q r).holds.next ≡ l.holds.next +ℤ pos 1
 entered_hold l k t s q (Ok price) e = refl
-entered_hold l k t s q (Err fault) e = absurd (let z : ◌≡◌ {A = ℕ} 0 1 = cc in omega arith)
+entered_hold l k t s q (Err fault) e = cc
 
 accounts_turn : (m : Prices) (l : Ledger) (c : Call) → Passed m l c → Turn 1 (λ l. l.accounts.next) m l c
 accounts_turn m l (open_account e k) p = inr (refl, refl)

@@ -3,8 +3,6 @@ ghost use Rattle.laws.specs.Every.{EveryRun};
 ghost use Rattle.laws.specs.Ranking.{RankedOnce};
 
 /// After every run, each rank from 1 to the accounts has exactly one account.
-pub fn ranked_runs() -> u8
+pub fn ranked_runs()
     ensures { EveryRun RankedOnce }
-{
-    0
-}
+{}

@@ -1,19 +1,20 @@
--- The last that passes, as a loop over a curve finds it.
-use Rattle.std.proofs.Common.{◌≡◌, ℕ, ◌+◌, ◌<◌, Bool, true, false, cond, List, [], ◌∷◌, ◌++◌, length, get_or, take, ℤ, Some, filter, Option, sym, refl, ap, append-nil}
-use Rattle.std.proofs.lemmas.List.Elements.{filter_more}
+-- The end of the last segment that a chain gives, by the list that it gives.
+use Rattle.std.proofs.Common.{◌≡◌, List, [], ◌∷◌, Some, None, Option, Bor, option_map, map, refl, ap, ◌∙◌}
+use Rattle.std.specs.Iterator.{Drains}
+use Rattle.std.specs.List.{last_or}
+use Rattle.std.proofs.lemmas.Iterator.{YieldsList, items_from_drains}
 use Rattle.market.specs.declared.segment.Segment.{Segment}
 use Rattle.rules.specs.Awards.{last_end}
 
-last_end_push : (xs : List Segment) (x : Segment) → last_end (xs ++ (x ∷ [])) ≡ Some x.end
-last_end_push [] x = refl
-last_end_push (y ∷ []) x = refl
-last_end_push (y ∷ z ∷ xs) x = last_end_push (z ∷ xs) x
+last_end_after : (x : Bor Segment) (xs : List (Bor Segment)) → option_map (λ s. s.now.end) (last_or (Some x) xs) ≡ last_end (map (λ s. s.now) (x ∷ xs))
+last_end_after x [] = refl
+last_end_after x (y ∷ ys) = last_end_after y ys
 
-last_end_cond : (t : Bool) (xs : List Segment) (x : Segment) → last_end (xs ++ cond t (x ∷ []) []) ≡ cond t (Some x.end) (last_end xs)
-last_end_cond true xs x = last_end_push xs x
-last_end_cond false xs x = ap last_end (append-nil xs)
+last_end_of_all : (xs : List (Bor Segment)) → option_map (λ s. s.now.end) (last_or None xs) ≡ last_end (map (λ s. s.now) xs)
+last_end_of_all [] = refl
+last_end_of_all (x ∷ xs) = last_end_after x xs
 
-pub last_end_more : (p : Segment → Bool) (xs : List Segment) (i : ℕ) (d : Segment) → i < length xs → (found : Option ℤ) → found ≡ last_end (filter p (take i xs))
-    → cond (p (get_or xs i d)) (Some (get_or xs i d).end) found ≡ last_end (filter p (take (i + 1) xs))
-last_end_more p xs i d h found f =
-    rw (f, filter_more p xs i d h) (sym (last_end_cond (p (get_or xs i d)) (filter p (take i xs)) (get_or xs i d)))
+pub last_end_from_yields_List : {S : Type 0} {steps : S → Option (Bor Segment) → S → Type 0} {s : S} {all : List Segment} (r : Option (Bor Segment))
+    → ((xs : List (Bor Segment)) × Drains steps s xs × (r ≡ last_or None xs)) → YieldsList steps (λ y. y.now) s all → option_map (λ y. y.now.end) r ≡ last_end all
+last_end_from_yields_List r (xs, d, e) y =
+    ap (option_map (λ (s : Bor Segment). s.now.end)) e ∙ last_end_of_all xs ∙ ap last_end (items_from_drains xs (d.1.0, d.1.1, λ _. (d.0, d.1.2)) y)

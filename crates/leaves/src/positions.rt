@@ -16,27 +16,18 @@ pub fn percent_of(class: Class, month: i64) -> Option<i64>
     ensures { result ≡ percent_of class month }
 {
     match class {
-        Class::Node | Class::Aggregate => {
-            if month <= FIRST_STEP {
-                Some(10)
-            } else if month <= SECOND_STEP {
-                Some(50)
-            } else {
-                None
-            }
-        }
+        Class::Node | Class::Aggregate => match month {
+            ..=FIRST_STEP => Some(10),
+            ..=SECOND_STEP => Some(50),
+            _ => None,
+        },
         Class::LoadPoint | Class::Hub => None,
-        Class::Intertie => {
-            if month <= FIRST_STEP {
-                Some(5)
-            } else if month <= SECOND_STEP {
-                Some(25)
-            } else if month <= THIRD_STEP {
-                Some(50)
-            } else {
-                None
-            }
-        }
+        Class::Intertie => match month {
+            ..=FIRST_STEP => Some(5),
+            ..=SECOND_STEP => Some(25),
+            ..=THIRD_STEP => Some(50),
+            _ => None,
+        },
     }
 }
 
@@ -49,11 +40,12 @@ pub fn is_within(
 ) -> bool
     ensures { result ≡ is_within percentage limit (position +ℤ highest) }
 {
+    // A match and no `is_none_or`: its closure would need a contract of its own.
     match percentage {
         None => true,
         Some(percent) => {
-            let stands = (position as i128 + highest as i128) * 100;
-            stands <= percent as i128 * limit as i128
+            let stands = (i128::from(position) + i128::from(highest)) * 100;
+            stands <= i128::from(percent) * i128::from(limit)
         }
     }
 }

@@ -36,6 +36,7 @@ impl Layout {
         requires { place < 2 ^ 63 }
         ensures { result ≡ BadArgument self.now.layer (pos place) }
     {
+        // A place of a list fits 63 bits, and the library has no `From` between the two types.
         Fault::BadArgument {
             layer: self.layer,
             place: place as i64,
@@ -57,6 +58,7 @@ impl Layout {
         if *columns < 0 || i32::from(self.columns) < *columns {
             return Err(self.refused_at(1));
         }
+        // The tests above are the bounds of the narrower types; `try_from` would ask the same once more.
         let sizes = Sizes {
             rows: *rows as u8,
             columns: *columns as u16,

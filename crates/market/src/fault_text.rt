@@ -17,6 +17,8 @@ impl fmt::Display for Fault {
     }
 }
 
+// The two faults below read alike: one text for both would need a third type to stand in for them.
+
 impl fmt::Display for PolicyFault {
     ghost output = { λ f. Some (policy_fault_text f) };
 

@@ -4,6 +4,8 @@ ghost use Rattle.market.specs.Letters.{Reads, side_letter, class_letter, period_
 
 use crate::words::{Class, Layer, Period, Side, UnknownLetter};
 
+// Each kind lists its own letters, by literal cases: the impls differ in what they list, and in nothing that could be shared.
+
 impl TryFrom<char> for Side {
     type Error = UnknownLetter;
 

@@ -1,6 +1,7 @@
 // The words of the market: letters, the day, segments of a curve, bounds, faults and refusals.
 #![tactic(auto)]
 
+pub mod bounded;
 pub mod bounds;
 pub mod day;
 pub mod fault;

@@ -3,3 +3,4 @@ pub mod Counts
 pub mod EveryRank
 pub mod Laws
 pub mod Narrowing
+pub mod Lex

@@ -6,6 +6,8 @@ use crate::source::Source;
 use market::bounds::{Hour, Number, Rate};
 use market::fault::{Asked, Fault};
 
+// The like of a policy's `price_or_refuse`, with another trait, key and refusal: what they share is the record of the place.
+
 /// The average of a location and hour, or refusal 14 with the location and the source's fault whole.
 pub fn average_or_fault<S: Source>(
     source: &mut S,

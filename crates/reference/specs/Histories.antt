@@ -2,6 +2,7 @@
 --   history_layout            up to 64 locations and 2,209 hours; a day-ahead price for each, then an average for each
 --   Holds xs s h              h holds what a list of these sizes has
 --   HoldsNothing h            h has no location and no hour
+--   HistoryOpened xs r        r holds what the list has, or is the refusal of its check
 --   HistoryOver xs h          h holds what the list has, or no location where the list does not pass its check
 --   of_location n l xs        the n numbers of location l, location after location
 --   history_price m n averages prices l s  the reference price of a location and side among m locations and n hours:
@@ -14,7 +15,8 @@ use Rattle.market.specs.declared.words.Side.{Side}
 use Rattle.lists.specs.declared.layout.Layout.{Layout}
 use Rattle.lists.specs.declared.layout.Sizes.{Sizes}
 use Rattle.lists.specs.Counted.{is_among}
-use Rattle.lists.specs.Lists.{Passed, cells}
+use Rattle.market.specs.declared.fault.Fault.{Fault}
+use Rattle.lists.specs.Lists.{Passed, Checked, cells}
 use Rattle.reference.specs.declared.history.History.{History}
 use Rattle.reference.specs.Prices.{fault}
 use Rattle.reference.specs.Spreads.{reference_price}
@@ -37,6 +39,11 @@ pub record Holds (xs : List ℤ) (s : Sizes) (h : History) : Type 0 where
 
 abbrev pub HoldsNothing : History → Type 0
 HoldsNothing h = (h.sizes.rows ≡ 0) × (h.sizes.columns ≡ 0)
+
+-- what a list that passes holds, or the refusal of the check
+abbrev pub HistoryOpened : List ℤ → Result History Fault → Type 0
+HistoryOpened xs (Ok h) = (s : Sizes) × Passed history_layout xs s × Holds xs s h
+HistoryOpened xs (Err f) = Checked history_layout xs (Err f)
 
 pub record HistoryOver (xs : List ℤ) (h : History) : Type 0 where
   pub passed : (s : Sizes) → Passed history_layout xs s → Holds xs s h

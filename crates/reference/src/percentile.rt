@@ -40,6 +40,7 @@ impl Hours<'_> {
         requires { index ≤ 2209 }
         ensures { result ≡ dated_spread side self.now.averages.now self.now.day_ahead.now index }
     {
+        // Hours are counted from 1 in 64 bits; an index has no `From` to them.
         let average = self.averages.get(index).copied().unwrap_or(0);
         let day_ahead = self.day_ahead.get(index).copied().unwrap_or(0);
         DatedSpread {

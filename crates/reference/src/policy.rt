@@ -14,6 +14,8 @@ pub trait Policy {
 
     ghost bounded: { (p : Self) (l : ℤ) (s : Side) → Priced (meaning p l s) };
 
+    // Location and side are two parameters: a struct of both would be made at each question to be taken apart at once.
+    /// The price of a location and side, or why there is none.
     fn quote(&mut self, location: Number, side: Side) -> Result<Rate, PolicyFault>
         ensures answers_by_meaning { result ≡ meaning self.old location side }
         ensures keeps_the_meaning { meaning self.new ≡ meaning self.old };

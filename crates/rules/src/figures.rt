@@ -2,8 +2,6 @@
 ghost use Rattle.rules.specs.Figures.{Figures};
 
 /// The figures of the rules hold, by the definitions.
-pub fn figures_hold() -> u8
+pub fn figures_hold()
     ensures { Figures }
-{
-    0
-}
+{}

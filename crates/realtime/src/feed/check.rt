@@ -14,6 +14,7 @@ impl<const PER: u8> Feed<'_, PER> {
     fn layout() -> Layout
         ensures { result ≡ feed_layout PER }
     {
+        // The market's bounds have 64 bits, a list's numbers 32, its sizes 8 and 16: each bound fits.
         Layout {
             layer: Layer::RealTime,
             rows: LOCATIONS as u8,

@@ -1,7 +1,7 @@
 // The check of a history's list, and the history over a list.
 ghost use Rattle.std.specs.Prelude.{◌≡◌};
 ghost use Rattle.lists.specs.Lists.{Checked, Passed};
-ghost use Rattle.reference.specs.Histories.{history_layout, Holds, HoldsNothing, HistoryOver};
+ghost use Rattle.reference.specs.Histories.{history_layout, Holds, HoldsNothing, HistoryOpened, HistoryOver};
 
 use super::History;
 use crate::percentile::HOURS_OF_HISTORY;
@@ -11,6 +11,7 @@ use market::fault::Fault;
 use market::words::Layer;
 
 /// Up to 64 locations and 2,209 hours; for each a day-ahead price, then for each an average.
+// The market's bounds have 64 bits, a list's numbers 32, its sizes 8 and 16: each bound fits.
 const HISTORY: Layout = Layout {
     layer: Layer::Policy,
     rows: LOCATIONS as u8,
@@ -60,13 +61,28 @@ impl<'a> History<'a> {
         }
     }
 
+    /// The history over a list that passes its check, or the refusal of the check.
+    pub fn open(list: &'a [i32]) -> Result<History<'a>, Fault>
+        ensures { HistoryOpened list.now result }
+    {
+        let sizes = check_history(list)?;
+        Ok(History::read(list, sizes))
+    }
+
     /// The history over a list; over one that does not pass its check, a history of no location.
     pub fn over(list: &'a [i32]) -> History<'a>
         ensures { HistoryOver list.now result }
     {
-        let Ok(sizes) = check_history(list) else {
+        let Ok(history) = History::open(list) else {
             return History::nothing();
         };
-        History::read(list, sizes)
+        history
+    }
+
+    /// How many locations and hours it has.
+    pub fn sizes(&self) -> Sizes
+        ensures { result ≡ self.now.sizes }
+    {
+        self.sizes
     }
 }

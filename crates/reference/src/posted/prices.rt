@@ -10,6 +10,8 @@ use market::bounds::{HIGHEST_REFERENCE, LOCATIONS, Number, Rate};
 use market::fault::{Cause, Fault, PolicyFault};
 use market::words::{Layer, Side};
 
+const PLACES: usize = LOCATIONS as usize; // of the table, one a location
+
 /// Whether a price is within the bounds of a reference price.
 fn is_reference(price: Rate) -> bool
     ensures { result ≡ in_reference price }
@@ -57,7 +59,7 @@ impl Posted {
             demand: None,
         };
         Posted {
-            entries: [empty; 64],
+            entries: [empty; PLACES],
         }
     }
 
@@ -69,7 +71,7 @@ impl Posted {
             layer: Layer::Policy,
             place: location,
         };
-        let Some(i) = index_from_one(location, LOCATIONS as usize) else {
+        let Some(i) = index_from_one(location, PLACES) else {
             return Err(refused);
         };
         if !is_reference(price) {
@@ -87,7 +89,7 @@ impl Policy for Posted {
     ghost bounded = { λ p. posted_priced p.entries };
 
     fn quote(&mut self, location: Number, side: Side) -> Result<Rate, PolicyFault> {
-        let Some(i) = index_from_one(location, LOCATIONS as usize) else {
+        let Some(i) = index_from_one(location, PLACES) else {
             return Err(PolicyFault {
                 cause: Cause::Outside,
                 location,

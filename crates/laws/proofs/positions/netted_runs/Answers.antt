@@ -1,5 +1,5 @@
--- Proved in Percent.
-use Rattle.laws.proofs.Percent.{netted_runs}
+-- Proved in Netted.
+use Rattle.laws.proofs.Netted.{netted_runs}
 use Rattle.laws.proofs.positions.netted_runs.Goals as goal
 
 pub returns : goal.returns

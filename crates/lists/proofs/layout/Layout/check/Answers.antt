@@ -41,7 +41,7 @@ returns-in-Some c =
     let there = (goal.at.returns-in-Some c).After-first_outside in (
       2 + c.in-Some.index,
       refused_in_first c.args.self.now c.args.list.now c.in_ok-sizes.ensures.read.0 c.length-begins.result (begins here) (whole here c.if-numbers-begins.false)
-      c.in-Some.index (in_first there ∙ c.in-Some.is),
+          c.in-Some.index (in_first there ∙ c.in-Some.is),
       c.refused_at-in-Some.ensures,
     )
 
@@ -52,7 +52,7 @@ returns-in-Some-first_outside c =
     let beyond = (goal.at.returns-in-Some-first_outside c).After-first_outside-2 in (
       2 + c.length-begins.result + c.in-Some-first_outside.index,
       refused_in_second c.args.self.now c.args.list.now c.in_ok-sizes.ensures.read.0 c.length-begins.result (begins here) (whole here c.if-numbers-begins.false)
-      (in_first there ∙ c.in_default.is) c.in-Some-first_outside.index (in_second beyond ∙ c.in-Some-first_outside.is),
+          (in_first there ∙ c.in_default.is) c.in-Some-first_outside.index (in_second beyond ∙ c.in-Some-first_outside.is),
       c.refused_at-in-Some-first_outside.ensures,
     )
 

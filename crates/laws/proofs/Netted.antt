@@ -1,6 +1,5 @@
--- The percentages by class and month; positions are not netted.
-use Rattle.std.proofs.Common.{◌≡◌, ℕ, Bool, true, false, cond, ◌&&◌, List, [], ◌∷◌, ℤ, pos, ◌+ℤ◌, ◌≤ℤ◌, ◌<ℤ◌, Some, None, Option, refl, ◌∙◌, arith}
-use lib.Signed.{le_z}
+-- Positions are not netted: what each side adds is at least zero, and both are in the sum.
+use Rattle.std.proofs.Common.{◌≡◌, Bool, true, false, cond, ◌&&◌, List, [], ◌∷◌, ℤ, pos, ◌+ℤ◌, ◌≤ℤ◌, refl, ◌∙◌, arith}
 use Rattle.std.specs.List.{AllByRecursion}
 use Rattle.std.proofs.ByRecursion.{all_kept_by}
 use Rattle.std.proofs.lemmas.Int.{ints}
@@ -8,41 +7,14 @@ use Rattle.market.specs.declared.words.Side.{Side}
 use Rattle.market.specs.declared.words.Side.TheVariants.{Supply, Demand}
 use Rattle.rules.specs.Credit.{highest_point}
 use Rattle.rules.specs.Ledger.{BidEntry}
-use Rattle.rules.specs.Position.{to_month, stands_at}
+use Rattle.rules.specs.Position.{stands_at}
 use Rattle.rules.specs.Questions.{same_side}
 use Rattle.rules.specs.Runs.{ledger_at}
 use Rattle.rules.specs.Words.{sum_of}
 use Rattle.laws.specs.Every.{EveryRun}
-use Rattle.laws.specs.Positions.{NotNetted, PercentLaw}
+use Rattle.laws.specs.Positions.{NotNetted}
 use Rattle.laws.proofs.Limits.{tops_low}
-use Rattle.laws.proofs.Sums.{int_le_in, sum_if, sum_kept}
-
-int_le_out : (a b : ℤ) → b <ℤ a → le_z a b ≡ false
-int_le_out a b h = grind (arith, ints)
-
-before_end : (last p : ℕ) (month : ℤ) (later : Option ℤ) → month ≤ℤ pos last → to_month last p month later ≡ Some
-    (pos p)
-before_end last p month later h = rw (int_le_in month (pos last) h) refl
-
-after_end : (last p : ℕ) (month : ℤ) (later : Option ℤ) → pos last <ℤ month → to_month last p month later ≡ later
-after_end last p month later h = rw (int_le_out month (pos last) h) refl
-
-pub percent_law : PercentLaw
-percent_law = record {
-  node_first = λ month h. before_end 8 10 month _ h;
-  node_second = λ month h k. after_end 8 10 month _ (omega (arith, ints)) ∙ before_end 12 50 month None k;
-  node_later = λ month h. after_end 8 10 month _ (omega (arith, ints)) ∙ after_end 12 50 month None
-      (omega (arith, ints));
-  aggregate = λ month. refl;
-  intertie_first = λ month h. before_end 8 5 month _ h;
-  intertie_second = λ month h k. after_end 8 5 month _ (omega (arith, ints)) ∙ before_end 12 25 month _ k;
-  intertie_third = λ month h k. after_end 8 5 month _ (omega (arith, ints))
-      ∙ (after_end 12 25 month _ (omega (arith, ints)) ∙ before_end 16 50 month None k);
-  intertie_later = λ month h. after_end 8 5 month _ (omega (arith, ints))
-      ∙ (after_end 12 25 month _ (omega (arith, ints)) ∙ after_end 16 50 month None (omega (arith, ints)));
-  load_point = λ month. refl;
-  hub = λ month. refl;
-}
+use Rattle.laws.proofs.Sums.{sum_if, sum_kept}
 
 abbrev top : BidEntry → ℤ
 top b = highest_point b.curve
