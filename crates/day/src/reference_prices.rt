@@ -1,20 +1,18 @@
 // Reference prices from last year's prices.
 use crate::lines::quote_line;
 use crate::table::Table;
-use lists::layout::Sizes;
 use market::bounds::Number;
 use market::words::Side;
 use reference::history::History;
 use reference::policy::Policy;
 
 impl Table for History<'_> {
+    fn locations(&self) -> u8 {
+        self.sizes().rows
+    }
+
     /// Prints both prices of a location.
-    fn show_location(
-        &mut self,
-        rt: &HostRuntime,
-        location: Number,
-        _sizes: Sizes,
-    ) -> anyhow::Result<()> {
+    fn show_location(&mut self, rt: &HostRuntime, location: Number) -> anyhow::Result<()> {
         for side in [Side::Supply, Side::Demand] {
             let price = self.quote(location, side);
             rt.println(quote_line(rt.alloc(), location, side, price)?)?;
@@ -23,7 +21,8 @@ impl Table for History<'_> {
     }
 
     /// Prints how many locations were priced, and from how many hours.
-    fn show_end(&self, rt: &HostRuntime, sizes: Sizes) -> anyhow::Result<()> {
+    fn show_end(&self, rt: &HostRuntime) -> anyhow::Result<()> {
+        let sizes = self.sizes();
         println!(rt;
             "reference prices of {} locations from {} hours",
             sizes.rows, sizes.columns

@@ -158,13 +158,11 @@ const OUTSIDE: [(i64, i64, u8); 9] = [
 
 #[test]
 fn location_after_location(rt: HostRuntime) -> Result<(), Fail> {
-    let sizes = Sizes {
-        rows: 2,
-        columns: 3,
-    };
+    let mut feed = HaspFeed::open(&SIX)?;
+    let sizes = feed.sizes();
+    assert_eq!(rt; (sizes.rows, sizes.columns), (2, 3));
     assert_eq!(rt; sizes.cell(2, 3), Some(5));
     assert_eq!(rt; sizes.cell(2, 4), None);
-    let mut feed = HaspFeed::over(&SIX);
     averages(
         &rt,
         &mut feed,
@@ -175,6 +173,7 @@ fn location_after_location(rt: HostRuntime) -> Result<(), Fail> {
 
 #[test]
 fn a_list_that_does_not_pass(rt: HostRuntime) -> Result<(), Fail> {
+    is_refused(&rt, rt.alloc(), HaspFeed::open(&[65]), "R 1 1")?;
     lacks(&rt, &mut HaspFeed::over(&[]), &[(1, 1, 1)])?;
     lacks(&rt, &mut HaspFeed::over(&[0, 0]), &[(1, 1, 1)])?;
     lacks(

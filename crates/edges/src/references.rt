@@ -101,8 +101,10 @@ fn a_history_prices_its_locations_alone(rt: HostRuntime) {
 }
 
 #[test]
-fn a_history_without_hours_or_damaged_has_no_price(rt: HostRuntime) {
+fn a_history_without_hours_or_damaged_has_no_price(rt: HostRuntime) -> Result<(), Fail> {
     assert_eq!(rt; priced(&[2, 0], 2, Side::Supply), Err(2));
     assert_eq!(rt; priced(&[2, 0], 3, Side::Supply), Err(1));
     assert_eq!(rt; priced(&[2, 1, 0], 1, Side::Supply), Err(1));
+    assert_eq!(rt; History::open(&[2, 0])?.sizes().rows, 2);
+    is_refused(&rt, rt.alloc(), History::open(&[2, 1, 0]), "P 1 3")
 }
