@@ -4,10 +4,14 @@
 mod averages;
 mod lines;
 mod reference_prices;
+mod table;
 
-use averages::show_feed;
-use reference_prices::show_history;
+use lines::bad_word_line;
+use numerals::{BadText, read_numbers};
+use realtime::feed::{DispatchFeed, HaspFeed};
+use reference::history::History;
 use std::fs;
+use table::show_table;
 
 const HISTORY_FILE: &str = "history.txt"; // last year's prices
 
@@ -15,34 +19,37 @@ const DISPATCH_FILE: &str = "dispatch.txt"; // five-minute prices
 
 const HASP_FILE: &str = "hasp.txt"; // fifteen-minute prices
 
-const DISPATCH: u8 = 12; // prices an hour
-
-const HASP: u8 = 4; // prices an hour
-
-/// The text of a file, or none with a line that says so.
-fn read(rt: &HostRuntime, file: &str) -> anyhow::Result<Option<String>> {
-    match fs::read_to_string(rt, file) {
-        Ok(text) => Ok(Some(text)),
-        Err(_) => {
-            println!(rt; "{file}: cannot be read")?;
-            Ok(None)
-        }
+/// Shows the list of numbers in a file, or prints why it has none.
+fn show_file<S>(rt: &HostRuntime, file: &str, show: S) -> anyhow::Result<()>
+where
+    S: Fn(&str, &[i32]) -> anyhow::Result<()>,
+    requires { S.IsAlwaysCallable show }
+{
+    let heap = rt.alloc();
+    let Ok(text) = fs::read_to_string(rt, file) else {
+        println!(rt; "{file}: cannot be read")?;
+        return Ok(());
+    };
+    match read_numbers(heap, text.as_str()) {
+        Err(BadText::NotANumber(word)) => Ok(rt.println(bad_word_line(heap, file, word)?)?),
+        numbers => show(file, numbers?.as_slice()),
     }
 }
 
+/// Shows each file.
 fn run(rt: &HostRuntime) -> anyhow::Result<()> {
-    if let Some(text) = read(rt, HISTORY_FILE)? {
-        show_history(rt, HISTORY_FILE, text.as_str())?;
-    }
-    if let Some(text) = read(rt, DISPATCH_FILE)? {
-        show_feed::<DISPATCH>(rt, DISPATCH_FILE, text.as_str())?;
-    }
-    if let Some(text) = read(rt, HASP_FILE)? {
-        show_feed::<HASP>(rt, HASP_FILE, text.as_str())?;
-    }
-    Ok(())
+    show_file(rt, HISTORY_FILE, |file, list| {
+        show_table(rt, file, History::open(list))
+    })?;
+    show_file(rt, DISPATCH_FILE, |file, list| {
+        show_table(rt, file, DispatchFeed::open(list))
+    })?;
+    show_file(rt, HASP_FILE, |file, list| {
+        show_table(rt, file, HaspFeed::open(list))
+    })
 }
 
+/// Shows the files that lie where the program runs.
 fn main(rt: HostRuntime) -> anyhow::Result<()> {
     run(&rt)
 }

@@ -10,4 +10,6 @@ mod ranks;
 #[cfg(test)]
 mod references;
 #[cfg(test)]
+mod shown;
+#[cfg(test)]
 mod words;

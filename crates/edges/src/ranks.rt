@@ -2,24 +2,15 @@
 use rank::pick::pick;
 use rank::spread::DatedSpread;
 use rank::standing::Standing;
-use std::test::Fail;
 
 /// Spreads of one hour with these values: equal values are equal elements.
 fn spreads(values: [i64; 3]) -> [DatedSpread; 3] {
-    let [a, b, c] = values;
-    [
-        DatedSpread { value: a, hour: 1 },
-        DatedSpread { value: b, hour: 1 },
-        DatedSpread { value: c, hour: 1 },
-    ]
+    values.map(|value| DatedSpread { value, hour: 1 })
 }
 
 /// The value of the spread of a rank.
 fn value_at(items: &[DatedSpread], rank: usize) -> Option<i64> {
-    match pick(items, rank) {
-        Some(spread) => Some(spread.value),
-        None => None,
-    }
+    pick(items, rank).map(|spread| spread.value)
 }
 
 #[test]
@@ -42,24 +33,18 @@ fn a_rank_outside_the_list_has_none(rt: HostRuntime) {
 }
 
 #[test]
-fn equal_spreads_go_by_hour(rt: HostRuntime) -> Result<(), Fail> {
+fn equal_spreads_go_by_hour(rt: HostRuntime) {
     let items = [
         DatedSpread { value: 3, hour: 7 },
         DatedSpread { value: 3, hour: 2 },
     ];
-    let Some(first) = pick(&items, 1) else {
-        return Err(Fail::new("no first"));
-    };
-    assert_eq!(rt; first.hour, 2);
-    Ok(())
+    let first = pick(&items, 1).map(|spread| spread.hour);
+    assert_eq!(rt; first, Some(2));
 }
 
 /// The number of the account at a rank.
 fn account_at(items: &[Standing], rank: usize) -> Option<i64> {
-    match pick(items, rank) {
-        Some(standing) => Some(standing.number),
-        None => None,
-    }
+    pick(items, rank).map(|standing| standing.number)
 }
 
 #[test]

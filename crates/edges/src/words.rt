@@ -1,24 +1,16 @@
-// Edges of the market's words: the day's bounds, letters, a refusal as text.
+// Edges of the market's words: the day's bounds, letters, a refusal and a side as text.
+use crate::shown::{is_refused, reads};
 use market::day::Day;
-use market::fault::{Cause, Fault, PolicyFault, Unpriced};
-use market::words::{Class, Period, Side};
+use market::fault::{Asked, Cause, Fault, PolicyFault};
+use market::words::{Class, Layer, Period, Side, UnknownLetter};
 use std::alloc::Global;
 use std::process::Abort;
 use std::test::Fail;
 
-/// A refusal reads so.
-fn reads(rt: &impl Abort, heap: Global, fault: Fault, text: &str) -> Result<(), Fail> {
-    let shown = fault.to_string(heap)?;
-    assert!(rt; shown.as_str() == text);
-    Ok(())
-}
-
 /// Each pair of hours and month makes its day.
 fn passes(rt: &impl Abort, days: &[(i64, i64)]) -> Result<(), Fail> {
     for (hours, month) in days {
-        let Ok(day) = Day::check(*hours, *month) else {
-            return Err(Fail::new("refused"));
-        };
+        let day = Day::check(*hours, *month)?;
         assert_eq!(rt; day.hours(), *hours);
         assert_eq!(rt; day.month(), *month);
     }
@@ -28,10 +20,7 @@ fn passes(rt: &impl Abort, days: &[(i64, i64)]) -> Result<(), Fail> {
 /// Each pair of hours and month is refused at its position.
 fn refused(rt: &impl Abort, heap: Global, days: &[(i64, i64, &str)]) -> Result<(), Fail> {
     for (hours, month, text) in days {
-        let Err(fault) = Day::check(*hours, *month) else {
-            return Err(Fail::new("not refused"));
-        };
-        reads(rt, heap, fault, text)?;
+        is_refused(rt, heap, Day::check(*hours, *month), text)?;
     }
     Ok(())
 }
@@ -57,18 +46,22 @@ fn a_day_has_23_to_25_hours_and_a_month_to_600(rt: HostRuntime) -> Result<(), Fa
 #[test]
 fn letters_are_upper_case_and_come_back(rt: HostRuntime) -> Result<(), Fail> {
     for letter in ['N', 'A', 'L', 'T', 'I'] {
-        let Some(class) = Class::from_letter(letter) else {
-            return Err(Fail::new("no class"));
-        };
-        assert_eq!(rt; class.letter(), letter);
+        let class = Class::try_from(letter)?;
+        assert_eq!(rt; char::from(class), letter);
     }
-    assert!(rt; Class::from_letter('n').is_none());
-    assert!(rt; Class::from_letter('S').is_none());
-    assert!(rt; Side::from_letter('S').is_some());
-    assert!(rt; Side::from_letter('s').is_none());
-    assert!(rt; Period::from_letter('O').is_some());
-    assert!(rt; Period::from_letter('0').is_none());
-    Ok(())
+    assert_eq!(rt; Class::try_from('n'), Err(UnknownLetter('n')));
+    assert_eq!(rt; Class::try_from('S'), Err(UnknownLetter('S')));
+    assert_eq!(rt; Side::try_from('S'), Ok(Side::Supply));
+    assert_eq!(rt; Side::try_from('s'), Err(UnknownLetter('s')));
+    assert_eq!(rt; Period::try_from('O'), Ok(Period::OffPeak));
+    assert_eq!(rt; Period::try_from('0'), Err(UnknownLetter('0')));
+    assert_eq!(rt; Layer::try_from('R'), Ok(Layer::RealTime));
+    reads(
+        &rt,
+        rt.alloc(),
+        UnknownLetter('s'),
+        "no case has the letter s",
+    )
 }
 
 #[test]
@@ -83,7 +76,9 @@ fn a_refusal_is_its_layer_number_and_place(rt: HostRuntime) -> Result<(), Fail> 
     reads(
         &rt,
         heap,
-        Fault::NoPrice(Unpriced { asked: 4, fault }),
+        Fault::NoPrice(Asked { asked: 4, fault }),
         "P 6 4",
-    )
+    )?;
+    reads(&rt, heap, fault, "cause 2 at location 9")?;
+    reads(&rt, heap, Side::Demand, "demand")
 }

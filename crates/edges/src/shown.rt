@@ -1,0 +1,28 @@
+// What a value or a refusal reads as text.
+use market::fault::Fault;
+use std::alloc::Global;
+use std::fmt::Display;
+use std::process::Abort;
+use std::test::Fail;
+
+/// A value reads so.
+pub fn reads<T: Display + Drop>(
+    rt: &impl Abort,
+    heap: Global,
+    value: T,
+    text: &str,
+) -> Result<(), Fail> {
+    assert_eq!(rt; value.to_string(heap)?.as_str(), text);
+    Ok(())
+}
+
+/// A call is refused, and the refusal reads so.
+pub fn is_refused<T: Drop>(
+    rt: &impl Abort,
+    heap: Global,
+    outcome: Result<T, Fault>,
+    text: &str,
+) -> Result<(), Fail> {
+    let fault = outcome.err().ok_or("not refused")?;
+    reads(rt, heap, fault, text)
+}
