@@ -8,6 +8,8 @@ fn spreads(values: [i64; 3]) -> [DatedSpread; 3] {
     values.map(|value| DatedSpread { value, hour: 1 })
 }
 
+// This and `account_at` differ in a field: one function for both would take it as a closure at each call.
+
 /// The value of the spread of a rank.
 fn value_at(items: &[DatedSpread], rank: usize) -> Option<i64> {
     pick(items, rank).map(|spread| spread.value)

@@ -12,6 +12,8 @@ use std::alloc::Global;
 use std::process::Abort;
 use std::test::Fail;
 
+// The number and not the `Cause`: it is what the rules say and what is tested.
+
 /// What a policy answers: a price, or the number of the fault's cause.
 fn answer<P: Policy>(policy: &mut P, location: i64, side: Side) -> Result<i64, u8> {
     policy

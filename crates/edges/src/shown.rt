@@ -5,6 +5,8 @@ use std::fmt::Display;
 use std::process::Abort;
 use std::test::Fail;
 
+// The heap goes with `rt`: what may stop a test is no allocator, and the runtime that is one may not stop it.
+
 /// A value reads so.
 pub fn reads<T: Display + Drop>(
     rt: &impl Abort,

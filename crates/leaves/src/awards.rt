@@ -60,6 +60,7 @@ const HALF_CENT: u64 = 60;
 pub fn cents_of(amount: Amount) -> Cents
     ensures { result ≡ cents_of amount }
 {
+    // Cents fit 63 bits, and the library has no `From` between the two types.
     let nearest = ((amount.unsigned_abs() + HALF_CENT) / CENT) as i64;
     nearest * amount.signum()
 }

@@ -10,7 +10,7 @@ use market::bounds::{HIGHEST_REFERENCE, LOCATIONS, Number, Rate};
 use market::fault::{Cause, Fault, PolicyFault};
 use market::words::{Layer, Side};
 
-const PLACES: usize = LOCATIONS as usize; // of the table, one a location
+const PLACES: usize = LOCATIONS as usize; // of the table, one a location; the bound fits an index
 
 /// Whether a price is within the bounds of a reference price.
 fn is_reference(price: Rate) -> bool
