@@ -6,6 +6,8 @@ use realtime::feed::Feed;
 use realtime::source::Source;
 
 impl<const PER: u8> Table for Feed<'_, PER> {
+    ghost count = { λ feed. feed.sizes.rows };
+
     fn locations(&self) -> u8 {
         self.sizes().rows
     }

@@ -7,6 +7,8 @@ use reference::history::History;
 use reference::policy::Policy;
 
 impl Table for History<'_> {
+    ghost count = { λ history. history.sizes.rows };
+
     fn locations(&self) -> u8 {
         self.sizes().rows
     }

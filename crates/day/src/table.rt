@@ -1,12 +1,17 @@
 // Tables of prices, location after location.
+ghost use Rattle.std.specs.Prelude.{◌≡◌, ℕ};
+
 use crate::lines::refusal_line;
 use market::bounds::Number;
 use market::fault::Fault;
 
 /// A table over a list of numbers: it shows each location in lines of its own, and then what it was.
 pub trait Table: Drop {
+    ghost count: { Self → ℕ };
+
     /// How many locations it has.
-    fn locations(&self) -> u8;
+    fn locations(&self) -> u8
+        ensures { result ≡ count self.now };
 
     /// Prints the lines of a location.
     fn show_location(&mut self, rt: &HostRuntime, location: Number) -> anyhow::Result<()>;
