@@ -8,8 +8,6 @@ fn spreads(values: [i64; 3]) -> [DatedSpread; 3] {
     values.map(|value| DatedSpread { value, hour: 1 })
 }
 
-// This and `account_at` differ in a field: one function for both would take it as a closure at each call.
-
 /// The value of the spread of a rank.
 fn value_at(items: &[DatedSpread], rank: usize) -> Option<i64> {
     pick(items, rank).map(|spread| spread.value)
@@ -44,11 +42,6 @@ fn equal_spreads_go_by_hour(rt: HostRuntime) {
     assert_eq!(rt; first, Some(2));
 }
 
-/// The number of the account at a rank.
-fn account_at(items: &[Standing], rank: usize) -> Option<i64> {
-    pick(items, rank).map(|standing| standing.number)
-}
-
 #[test]
 fn accounts_go_by_cash_then_credit_then_number(rt: HostRuntime) {
     let items = [
@@ -73,8 +66,8 @@ fn accounts_go_by_cash_then_credit_then_number(rt: HostRuntime) {
             number: 4,
         },
     ];
-    assert_eq!(rt; account_at(&items, 1), Some(2));
-    assert_eq!(rt; account_at(&items, 2), Some(3));
-    assert_eq!(rt; account_at(&items, 3), Some(1));
-    assert_eq!(rt; account_at(&items, 4), Some(4));
+    for (rank, number) in [(1, 2), (2, 3), (3, 1), (4, 4)] {
+        let account = pick(&items, rank).map(|standing| standing.number);
+        assert_eq!(rt; account, Some(number));
+    }
 }
