@@ -8,8 +8,8 @@ use realtime::source::Source;
 impl<const PER: u8> Table for Feed<'_, PER> {
     ghost count = { λ feed. feed.sizes.rows };
 
-    fn locations(&self) -> u8 {
-        self.sizes().rows
+    fn locations(&self) -> Number {
+        Number::from(self.sizes().rows)
     }
 
     /// Prints the averages of a location, hour after hour.

@@ -9,8 +9,8 @@ use reference::policy::Policy;
 impl Table for History<'_> {
     ghost count = { λ history. history.sizes.rows };
 
-    fn locations(&self) -> u8 {
-        self.sizes().rows
+    fn locations(&self) -> Number {
+        Number::from(self.sizes().rows)
     }
 
     /// Prints both prices of a location.

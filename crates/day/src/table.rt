@@ -1,5 +1,5 @@
 // Tables of prices, location after location.
-ghost use Rattle.std.specs.Prelude.{◌≡◌, ℕ};
+ghost use Rattle.std.specs.Prelude.{◌≡◌, ℕ, pos};
 
 use crate::lines::refusal_line;
 use market::bounds::Number;
@@ -10,8 +10,8 @@ pub trait Table: Drop {
     ghost count: { Self → ℕ };
 
     /// How many locations it has.
-    fn locations(&self) -> u8
-        ensures { result ≡ count self.now };
+    fn locations(&self) -> Number
+        ensures { result ≡ pos (count self.now) };
 
     /// Prints the lines of a location.
     fn show_location(&mut self, rt: &HostRuntime, location: Number) -> anyhow::Result<()>;
@@ -22,7 +22,7 @@ pub trait Table: Drop {
 
 /// Prints the lines of each location of a table, and then what was done.
 fn show_locations<T: Table>(rt: &HostRuntime, table: &mut T) -> anyhow::Result<()> {
-    for location in 1..=i64::from(table.locations()) {
+    for location in 1..=table.locations() {
         table.show_location(rt, location)?;
     }
     table.show_end(rt)
