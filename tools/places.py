@@ -120,7 +120,7 @@ POINTS = {
     + search(r"^ *while [^\n]*"),
     "4 equality, order, conversion, printing by hand": search(r"^impl[^\n]*\b(?:From|Display|Drop|Order|PartialEq|Clone)[^\n]* for [^\n]*")
     + search(r"fn (?:from_letter|letter|number|side_name)\b")
-    + search(r" as (?:u8|u16|i32|i64|i128|usize)\b"),
+    + search(r" as (?:u8|u16|u32|i32|i64|i128|usize)\b"),
     "5 facts in three contracts, parameters that travel together": facts(),
     "6 buffers, parallel arrays, indices": search(r"\[[^\[\];]+; ?[\w:]+\]")
     + search(r"\b\w+\[[^\]\n]+\](?! ?[;{])")

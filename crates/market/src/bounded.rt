@@ -6,6 +6,8 @@ use std::marker::Model;
 
 const MOST_HELD: u32 = 10_000; // of a hold, and so of each bid and award on it
 
+// The market's bounds have a sign and 64 bits; a parameter has neither, and each bound fits it.
+
 const MOST_PRICE: u32 = HIGHEST_PRICE as u32;
 
 const MOST_AVERAGE: u32 = HIGHEST_AVERAGE as u32;
