@@ -31,8 +31,9 @@ where
         return Ok(());
     };
     match read_numbers(heap, text.as_str()) {
+        Ok(numbers) => show(file, numbers.as_slice()),
         Err(BadText::NotANumber(word)) => Ok(rt.println(bad_word_line(heap, file, word)?)?),
-        numbers => show(file, numbers?.as_slice()),
+        Err(fault) => Err(fault.into()),
     }
 }
 

@@ -40,7 +40,7 @@ pub fn is_within(
 ) -> bool
     ensures { result ≡ is_within percentage limit (position +ℤ highest) }
 {
-    // A match and no `is_none_or`: its closure would need a contract of its own.
+    // A match: by `is_none_or` and a closure it was tried, and the proof of its products did not close.
     match percentage {
         None => true,
         Some(percent) => {

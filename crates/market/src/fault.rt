@@ -14,7 +14,8 @@ pub enum Cause {
     Missing = 2,
 }
 
-// The two faults below have the same fields and stay two types: by the type, `From` knows which layer refuses.
+// The two faults below have the same fields and stay two types: a source's fault could pass for a policy's otherwise, and the
+// wrong layer be blamed.
 
 /// Why a policy has no price, and for which location.
 #[derive(Clone, Copy, Debug, PartialEq, Eq)]

@@ -17,9 +17,8 @@ pub fn average_or_fault<S: Source>(
     ensures answers_by_meaning { result ≡ average_or_fault location (S.meaning source.old location hour) }
     ensures keeps_the_meaning { S.meaning source.new ≡ S.meaning source.old }
 {
-    let average = source.average(location, hour).map_err(|fault| Asked {
-        asked: location,
-        fault,
-    })?;
-    Ok(average)
+    let asked = location;
+    source
+        .average(location, hour)
+        .map_err(|fault| Fault::from(Asked { asked, fault }))
 }

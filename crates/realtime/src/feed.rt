@@ -11,6 +11,7 @@ use lists::layout::Sizes;
 const PUBLISHED: i32 = 1; // the mark of a published hour in a list of numbers, 0 being that of one that is not
 
 /// A list beside its sizes, with `PER` prices to an hour of a location; over a list that did not pass the check both sizes are 0.
+// The list stays whole, and is cut where it is read: what a feed means is said of its list.
 #[derive(Drop)]
 pub struct Feed<'a, const PER: u8> {
     list: &'a [i32],

@@ -40,11 +40,11 @@ impl Hours<'_> {
         requires { index ≤ 2209 }
         ensures { result ≡ dated_spread side self.now.averages.now self.now.day_ahead.now index }
     {
-        // Hours are counted from 1 in 64 bits; an index has no `From` to them.
         let average = self.averages.get(index).copied().unwrap_or(0);
         let day_ahead = self.day_ahead.get(index).copied().unwrap_or(0);
         DatedSpread {
             value: spread_of(side, average, day_ahead),
+            // Hours are counted from 1 in 64 bits; an index has no `From` to them.
             hour: index as i64 + 1,
         }
     }

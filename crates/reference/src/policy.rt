@@ -30,9 +30,8 @@ pub fn price_or_refuse<P: Policy>(
     ensures answers_by_meaning { result ≡ price_or_refuse location (P.meaning policy.old location side) }
     ensures keeps_the_meaning { P.meaning policy.new ≡ P.meaning policy.old }
 {
-    let price = policy.quote(location, side).map_err(|fault| Asked {
-        asked: location,
-        fault,
-    })?;
-    Ok(price)
+    let asked = location;
+    policy
+        .quote(location, side)
+        .map_err(|fault| Fault::from(Asked { asked, fault }))
 }

@@ -4,7 +4,9 @@ ghost use Rattle.reference.specs.Fair.{fair};
 
 pub mod prices;
 
-use market::bounds::Rate;
+use market::bounds::{LOCATIONS, Rate};
+
+const PLACES: usize = LOCATIONS as usize; // of the table, one a location; the bound fits an index
 
 /// A location's prices by side, each where it was posted.
 #[derive(Clone, Copy)]
@@ -18,5 +20,5 @@ struct Entry {
 /// Prices of locations 1 to 64 by side, where they were posted.
 #[derive(Drop)]
 pub struct Posted {
-    entries: [Entry; 64],
+    entries: [Entry; PLACES],
 }

@@ -56,6 +56,7 @@ impl<const PER: u8> Feed<'_, PER> {
         ensures value { result.now ≡ take PER (drop (2 + self.now.sizes.rows * self.now.sizes.columns + cell * PER) self.now.list.now) }
         ensures len { length result.now ≡ PER }
     {
+        // Cut by its ends: pieces of one size, as `chunks_exact` gives, may not have the size 0.
         let per = usize::from(PER);
         let first = 2 + self.sizes.cells() + cell * per;
         &self.list[first..first + per]

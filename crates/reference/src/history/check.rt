@@ -35,6 +35,8 @@ pub fn check_history(list: &[i32]) -> Result<Sizes, Fault>
     HISTORY.check(list)
 }
 
+// A history is checked and opened as a feed is. They share the check; what they keep of the list, and promise of it, differs.
+
 impl<'a> History<'a> {
     /// What a list that passed its check holds.
     fn read(list: &'a [i32], sizes: Sizes) -> History<'a>

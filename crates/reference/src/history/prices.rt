@@ -18,6 +18,7 @@ impl<'a> History<'a> {
         requires whole { length numbers.now ≡ self.now.sizes.rows * self.now.sizes.columns }
         ensures { result.now ≡ take self.now.sizes.columns (drop (index * self.now.sizes.columns) numbers.now) }
     {
+        // Cut by its ends: pieces of one size, as `chunks_exact` gives, may not have the size 0, and a history may have no hour.
         let hours = usize::from(self.sizes.columns);
         let first = index * hours;
         &numbers[first..first + hours]

@@ -3,14 +3,12 @@ ghost use Rattle.std.specs.Prelude.{◌≡◌, true, Some};
 ghost use Rattle.reference.specs.Fair.{in_reference};
 ghost use Rattle.reference.specs.Posted.{by_side, KeepsTheOther, posted_price, posted_priced, Posting, EmptyTable};
 
-use super::{Entry, Posted};
+use super::{Entry, PLACES, Posted};
 use crate::policy::Policy;
 use lists::counted::index_from_one;
-use market::bounds::{HIGHEST_REFERENCE, LOCATIONS, Number, Rate};
+use market::bounds::{HIGHEST_REFERENCE, Number, Rate};
 use market::fault::{Cause, Fault, PolicyFault};
 use market::words::{Layer, Side};
-
-const PLACES: usize = LOCATIONS as usize; // of the table, one a location; the bound fits an index
 
 /// Whether a price is within the bounds of a reference price.
 fn is_reference(price: Rate) -> bool
