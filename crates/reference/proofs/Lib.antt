@@ -1,4 +1,3 @@
-pub mod Filled
 pub mod Ranked
 pub mod Read
 pub mod Table

@@ -1,15 +1,15 @@
 // The 95th percentile of an hour's spreads (section 12.8.2): their values by side, and the one of the rank.
-ghost use Rattle.std.specs.Prelude.{◌≡◌, ◌≤◌, map};
-ghost use Rattle.std.specs.List.{range_with_len};
+ghost use Rattle.std.specs.Prelude.{◌≡◌, ◌≤◌, length};
+ghost use Rattle.rank.specs.Orders.{lower_spread};
+ghost use Rattle.rank.specs.Ranks.{Picked};
 ghost use Rattle.reference.specs.Percentile.{PercentileRank, percentile_rank};
-ghost use Rattle.reference.specs.Spreads.{spread_of, dated_spread, PriceOf, reference_price, Referenced};
+ghost use Rattle.reference.specs.Spreads.{spread_of, dated_spread, spreads_to, PriceOf, reference_price, Referenced};
 
 use crate::hours::Hours;
 use market::bounds::Rate;
 use market::words::Side;
 use rank::pick::pick;
 use rank::spread::DatedSpread;
-use std::array;
 
 /// The hours of three months, one of them with a day of 25 hours.
 pub const HOURS_OF_HISTORY: usize = 2209;
@@ -49,21 +49,35 @@ impl Hours<'_> {
         }
     }
 
-    /// The spreads of the hours from the first on, and behind the last hour those of zeros, up to the most hours.
-    // An array of fixed size, since a policy is given no allocator.
-    fn spreads(&self, side: Side) -> [DatedSpread; HOURS_OF_HISTORY]
-        ensures { result ≡ map (dated_spread side self.now.averages.now self.now.day_ahead.now) (range_with_len 0 2209) }
+    /// Writes the spreads of so many hours as there are places, from the first hour on.
+    fn write_spreads(&self, side: Side, spreads: &mut [DatedSpread])
+        requires { length spreads.old ≤ 2209 }
+        ensures { spreads.new ≡ spreads_to side self.now.averages.now self.now.day_ahead.now (length spreads.old) }
     {
-        array::from_fn(|index| self.dated_spread(side, index))
+        for (index, spread) in spreads.iter_mut().enumerate() {
+            *spread = self.dated_spread(side, index);
+        }
     }
 
-    /// The spread of the percentile's rank among those of the hours.
+    /// The spread of the percentile's rank among those of the hours, which it writes into as many places.
+    fn percentile(&self, side: Side, spreads: &mut [DatedSpread]) -> Option<DatedSpread>
+        requires { length spreads.old ≡ length self.now.averages.now }
+        ensures least { PercentileRank (length self.now.averages.now) (percentile_rank (length self.now.averages.now)) }
+        ensures picked { Picked lower_spread (spreads_to side self.now.averages.now self.now.day_ahead.now (length self.now.averages.now))
+            (percentile_rank (length self.now.averages.now)) result }
+    {
+        self.write_spreads(side, spreads);
+        pick(spreads, percentile_rank(self.averages.len()))
+    }
+
+    /// The price that the hours give a side.
     fn price(&self, side: Side) -> Rate
         ensures of_its_rank { PriceOf side self.now.averages.now self.now.day_ahead.now result }
         ensures value { result ≡ reference_price side self.now.averages.now self.now.day_ahead.now }
     {
-        let hours = self.averages.len();
-        match pick(&self.spreads(side)[..hours], percentile_rank(hours)) {
+        // Places for the most hours, of which the first so many are used: a policy is given no memory.
+        let mut spreads = [DatedSpread { value: 0, hour: 0 }; HOURS_OF_HISTORY];
+        match self.percentile(side, &mut spreads[..self.averages.len()]) {
             Some(spread) => spread.value,
             None => unreachable!(),
         }
