@@ -4,7 +4,7 @@ ghost use Rattle.std.specs.Prelude.{◌≡◌, ◌<◌, ◌≤◌, length};
 pub(crate) mod opening;
 
 /// Two lists of one length, of 1 to 2,209 numbers.
-// Two slices and not one of pairs, as in a history; past their end zeros stand for both, and are never picked.
+// Two slices and not one of pairs: both are lent by a history, and pairs would need a copy of them.
 #[derive(Drop)]
 pub(crate) struct Hours<'a> {
     pub(crate) averages: &'a [i32],

@@ -1,5 +1,5 @@
 // The 95th percentile of an hour's spreads (section 12.8.2): their values by side, and the one of the rank.
-ghost use Rattle.std.specs.Prelude.{◌≡◌, ◌≤◌, length};
+ghost use Rattle.std.specs.Prelude.{◌≡◌, ◌<◌, ◌≤◌, length};
 ghost use Rattle.rank.specs.Orders.{lower_spread};
 ghost use Rattle.rank.specs.Ranks.{Picked};
 ghost use Rattle.reference.specs.Percentile.{PercentileRank, percentile_rank};
@@ -35,15 +35,13 @@ fn spread_of(side: Side, average: i32, day_ahead: i32) -> i64
 }
 
 impl Hours<'_> {
-    /// The spread of the hour of this index; past the last hour it is one of zeros.
+    /// The spread of the hour of this index.
     fn dated_spread(&self, side: Side, index: usize) -> DatedSpread
-        requires { index ≤ 2209 }
+        requires { index < length self.now.averages.now }
         ensures { result ≡ dated_spread side self.now.averages.now self.now.day_ahead.now index }
     {
-        let average = self.averages.get(index).copied().unwrap_or(0);
-        let day_ahead = self.day_ahead.get(index).copied().unwrap_or(0);
         DatedSpread {
-            value: spread_of(side, average, day_ahead),
+            value: spread_of(side, self.averages[index], self.day_ahead[index]),
             // Hours are counted from 1 in 64 bits; an index has no `From` to them.
             hour: index as i64 + 1,
         }
@@ -51,7 +49,7 @@ impl Hours<'_> {
 
     /// Writes the spreads of so many hours as there are places, from the first hour on.
     fn write_spreads(&self, side: Side, spreads: &mut [DatedSpread])
-        requires { length spreads.old ≤ 2209 }
+        requires { length spreads.old ≤ length self.now.averages.now }
         ensures { spreads.new ≡ spreads_to side self.now.averages.now self.now.day_ahead.now (length spreads.old) }
     {
         for (index, spread) in spreads.iter_mut().enumerate() {
