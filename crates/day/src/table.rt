@@ -5,6 +5,8 @@ use crate::lines::refusal_line;
 use market::bounds::Number;
 use market::fault::Fault;
 
+// Its methods print, and differ in their lines from table to table; what a line says stands in the contracts of `lines`.
+
 /// A table over a list of numbers: it shows each location in lines of its own, and then what it was.
 pub trait Table: Drop {
     ghost count: { Self → ℕ };

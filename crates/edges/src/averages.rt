@@ -10,6 +10,8 @@ use realtime::source::Source;
 use std::process::Abort;
 use std::test::Fail;
 
+// Places and causes stand here as the rules' numbers, and the arrays below are the tests' data.
+
 /// A list of numbers, and the place at which the check refuses it, or none where it passes.
 type Row<'a> = (&'a [i32], Option<i64>);
 
