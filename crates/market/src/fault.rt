@@ -59,6 +59,8 @@ pub enum Fault {
 }
 
 impl Cause {
+    // A number stays, here and of a refusal: the rules mark by it, beside a place and a layer.
+
     /// The number by which the rules call a cause.
     pub fn number(self) -> u8
         ensures { result ≡ cause_number self }
