@@ -118,12 +118,12 @@ POINTS = {
     + search(r"\w+ [+-]= 1;")
     + search(r"\.enumerate\(\)")
     + search(r"^ *while [^\n]*"),
-    "4 equality, order, conversion, printing by hand": search(r"^impl[^\n]*\b(?:From|Display|Drop|Order|PartialEq|Clone)[^\n]* for [^\n]*")
+    "4 equality, order, conversion, printing by hand": search(r"^impl[^\n]*\b(?:From|TryFrom|Display|Drop|Order|Ord|PartialOrd|PartialEq|Clone)[^\n]* for [^\n]*")
     + search(r"fn (?:from_letter|letter|number|side_name)\b")
     + search(r" as (?:u8|u16|u32|i32|i64|i128|usize)\b"),
     "5 facts in three contracts, parameters that travel together": facts(),
     "6 buffers, parallel arrays, indices": search(r"\[[^\[\];]+; ?[\w:]+\]")
-    + search(r"\b\w+\[[^\]\n]+\](?! ?[;{])")
+    + search(r"\b\w+\[[^\];\n]+\](?! ?\{)")
     + search(r"\w+: &'a \[i32\],"),
     "7 switches on steps, tables of functions": search(r"\bfn\(")
     + search(r"\bdyn\b")

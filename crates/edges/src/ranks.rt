@@ -3,6 +3,8 @@ use rank::pick::pick;
 use rank::spread::DatedSpread;
 use rank::standing::Standing;
 
+// The arrays are the tests' data.
+
 /// Spreads of one hour with these values: equal values are equal elements.
 fn spreads(values: [i64; 3]) -> [DatedSpread; 3] {
     values.map(|value| DatedSpread { value, hour: 1 })

@@ -5,7 +5,7 @@ use std::fmt::Display;
 use std::process::Abort;
 use std::test::Fail;
 
-// The heap goes with `rt`: what may stop a test is no allocator, and the runtime that is one may not stop it.
+// The heap goes with `rt`: what may stop a test is no allocator, and a pair of both would be made at each test.
 
 /// A value reads so.
 pub fn reads<T: Display + Drop>(

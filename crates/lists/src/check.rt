@@ -58,7 +58,7 @@ impl Layout {
         if *columns < 0 || i32::from(self.columns) < *columns {
             return Err(self.refused_at(1));
         }
-        // Tried by `try_from` and a test of what it gives, in place of the tests above: the proof of the refusal did not close.
+        // `try_from` was tried in place of the tests above: the proof of the refusal did not close.
         let sizes = Sizes {
             rows: *rows as u8,
             columns: *columns as u16,

@@ -49,7 +49,7 @@ impl<const BELOW: u32, const ABOVE: u32> Bounded<BELOW, ABOVE> {
         ensures within { IsSome result ↔ ((neg_ℤ (pos BELOW) ≤ℤ value) × (value ≤ℤ pos ABOVE)) }
         ensures same { IfSome result (λ b. b ≡ value) }
     {
-        if -i64::from(BELOW) <= value && value <= i64::from(ABOVE) {
+        if (-i64::from(BELOW)..=i64::from(ABOVE)).contains(&value) {
             Some(Bounded { value })
         } else {
             None

@@ -59,7 +59,7 @@ pub enum Fault {
 }
 
 impl Cause {
-    // A number stays, here and of a refusal: the rules mark by it, beside a place and a layer.
+    // A number stays, here and of a refusal: the rules call each by it. The cases have the rules' numbers, which a cast reads.
 
     /// The number by which the rules call a cause.
     pub fn number(self) -> u8

@@ -52,6 +52,7 @@ impl Hours<'_> {
         requires { length spreads.old ≤ length self.now.averages.now }
         ensures { spreads.new ≡ spreads_to side self.now.averages.now self.now.day_ahead.now (length spreads.old) }
     {
+        // One index for both lists: over a `zip` with them it was tried, and the proof of the loop did not close.
         for (index, spread) in spreads.iter_mut().enumerate() {
             *spread = self.dated_spread(side, index);
         }

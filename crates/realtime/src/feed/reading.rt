@@ -18,6 +18,7 @@ fn sum_of(prices: &[i32]) -> i64
     ensures low { neg_ℤ (pos (2 ^ 40)) ≤ℤ result }
     ensures high { result ≤ℤ pos (2 ^ 40) }
 {
+    // A loop: as a signed `sum` over a chain it was tried, and the proof of its bound did not close.
     let mut sum = 0;
     for price in prices {
         sum += i64::from(*price);
