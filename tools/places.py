@@ -88,21 +88,11 @@ def facts():
     return out
 
 
-def answers():
-    """Answers in proof files."""
+def proofs(files, name):
+    """Names that proof files declare, as file: name."""
     found = []
-    for p in sorted(root.glob("crates/*/proofs/**/Answers.antt")):
-        for m in re.finditer(r"^pub ([\w-]+) :", p.read_text(), re.M):
-            found.append(f"{p.relative_to(root)}: {m.group(1)}")
-    return found
-
-
-def lemmas():
-    """Lemmas in proof files that are no answers."""
-    found = []
-    for p in sorted(root.glob("crates/*/proofs/*.antt")):
-        for m in re.finditer(r"^ *(?:pub )?([a-z][\w'-]*) :", p.read_text(), re.M):
-            found.append(f"{p.relative_to(root)}: {m.group(1)}")
+    for p in sorted(root.glob(f"crates/*/proofs/{files}")):
+        found += [f"{p.relative_to(root)}: {m.group(1)}" for m in re.finditer(name, p.read_text(), re.M)]
     return found
 
 
@@ -128,8 +118,8 @@ POINTS = {
     "7 switches on steps, tables of functions": search(r"\bfn\(")
     + search(r"\bdyn\b")
     + search(r"if let Some\(text\) = read"),
-    "8 answers": answers(),
-    "8 lemmas": lemmas(),
+    "8 answers": proofs("**/Answers.antt", r"^pub ([\w-]+) :"),
+    "8 lemmas": proofs("*.antt", r"^ *(?:pub )?([a-z][\w'-]*) :"),
 }
 
 for point, places in POINTS.items():

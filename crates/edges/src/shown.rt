@@ -1,4 +1,7 @@
 // What a value or a refusal reads as text.
+ghost use Rattle.std.specs.Prelude.{◌≡◌, IfSome, IsErrAnd, OnOk};
+ghost use Rattle.market.specs.Texts.{fault_text};
+
 use market::fault::Fault;
 use std::alloc::Global;
 use std::fmt::Display;
@@ -13,7 +16,9 @@ pub fn reads<T: Display + Drop>(
     heap: Global,
     value: T,
     text: &str,
-) -> Result<(), Fail> {
+) -> Result<(), Fail>
+    ensures { OnOk result (IfSome (T.output value) (λ bytes. bytes ≡ text.now)) }
+{
     assert_eq!(rt; value.to_string(heap)?.as_str(), text);
     Ok(())
 }
@@ -24,7 +29,9 @@ pub fn is_refused<T: Drop>(
     heap: Global,
     outcome: Result<T, Fault>,
     text: &str,
-) -> Result<(), Fail> {
+) -> Result<(), Fail>
+    ensures { OnOk result (IsErrAnd outcome (λ fault. fault_text fault ≡ text.now)) }
+{
     let fault = outcome.err().ok_or("not refused")?;
     reads(rt, heap, fault, text)
 }
