@@ -25,3 +25,11 @@ module _ {X : Type 0} (p q : X → Bool) (weaker : (y : X) → p y ≡ true → 
 
 pub count_none : {X : Type 0} (p : X → Bool) (xs : List X) → count_by p xs ≡ 0 → AllByRecursion (λ x. p x ≡ false) xs
 count_none p xs e = recursion_from_All (λ x. p x ≡ false) xs (λ k d h. let le = get_or-le-sum_by (λ x. cond (p x) 1 0) xs k d h in grind arith)
+
+-- an element counts 1 where it passes, and so does the sum of all
+abbrev pub one : {X : Type 0} → (X → Bool) → X → ℕ
+one p x = cond (p x) 1 0
+
+-- the test whether an element goes before x
+abbrev pub goes : {X : Type 0} → (X → X → Bool) → X → X → Bool
+goes before x y = before y x

@@ -10,7 +10,7 @@ use Rattle.std.proofs.lemmas.Option.{slice_get_within, slice_get_cases, get_or_f
 use Rattle.rank.specs.declared.pick.Gap.{Gap}
 use Rattle.rank.specs.Narrow.{over, under, between, Between}
 use Rattle.rank.specs.Ranks.{before, ahead, Ranked}
-use Rattle.rank.proofs.Before.{before_itself, before_trans, before_follows}
+use Rattle.rank.specs.Before.{before_itself, before_trans, before_follows}
 use Rattle.rank.proofs.Counts.{count_mono, count_less, count_none}
 
 module _ {X : Type 0} (xs : List X) (i : ℕ) where

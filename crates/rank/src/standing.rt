@@ -5,7 +5,9 @@ ghost use Rattle.std.specs.Cmp.{partial_order_from_own_ties};
 ghost use Rattle.std.specs.Cmp.Rules.{comparing};
 ghost use Rattle.std.specs.Ordering.{as_partial_cmp};
 ghost use Rattle.rank.specs.Orders.{standing_cmp, higher_standing};
+ghost use Rattle.rank.specs.Laws.{standing_order};
 
+use crate::order::Order;
 use std::cmp::Ordering;
 
 /// What an account is ranked by.
@@ -43,6 +45,10 @@ impl PartialOrd for Standing {
     fn partial_cmp(&self, other: &Standing) -> Option<Ordering> {
         Some(self.cmp(other))
     }
+}
+
+impl Order for Standing {
+    ghost strict = { standing_order };
 }
 
 impl Standing {

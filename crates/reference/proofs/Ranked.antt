@@ -9,7 +9,7 @@ use Rattle.rank.specs.declared.spread.DatedSpread.{DatedSpread}
 use Rattle.rank.specs.Orders.{lower_spread}
 use Rattle.rank.specs.Ranks.{Apart, Ranked, Picked, at_rank}
 use Rattle.rank.proofs.EveryRank.{apart_push, every_rank, at_every_rank, tied_at_rank}
-use Rattle.rank.proofs.Laws.{spread_strict, spread_transitive, spread_decides, spread_tied}
+use Rattle.rank.specs.Laws.{spread_strict, spread_transitive, spread_decides, spread_tied}
 use Rattle.reference.specs.Percentile.{percentile_rank}
 use Rattle.reference.specs.Spreads.{dated_spread, spreads_to, value_in}
 

@@ -11,4 +11,4 @@ pub returns : goal.returns
 returns g c =
     let nth = nth_from_yields_List c.nth.result c.nth.new.self _ c.nth.ensures.ran
     (YieldsList-from_filter _ (between (before g.T.Ord.cmp) c.args.self.now) (YieldsList-from_slice c.args.items.now cc) c.filter.ensures.closure (λ x b q k. search (rules, tests))) in
-    middle_between (before g.T.Ord.cmp) c.args.self.now c.args.items.now c.copied.result cc
+    middle_between (before g.T.Ord.cmp) c.args.self.now c.args.items.now c.copied.result (search rules)

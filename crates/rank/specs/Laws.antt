@@ -6,7 +6,8 @@ use Rattle.std.proofs.lemmas.Int.{ints}
 use Rattle.rank.specs.declared.spread.DatedSpread.{DatedSpread}
 use Rattle.rank.specs.declared.standing.Standing.{Standing}
 use Rattle.rank.specs.Orders.{spread_cmp, lower_spread, standing_cmp, higher_standing}
-use Rattle.rank.proofs.Before.{before_itself, before_trans}
+use Rattle.rank.specs.Ranks.{StrictOrder}
+use Rattle.rank.specs.Before.{before_itself, before_trans}
 
 spread_total : IsTotalOrder spread_cmp
 spread_total = search comparing
@@ -35,3 +36,9 @@ standing_transitive = before_trans standing_cmp standing_total
 
 pub standing_decides : (x y : Standing) → (x ≢ y) → higher_standing x y ≡ not (higher_standing y x)
 standing_decides x y ne = search rules
+
+pub spread_order : StrictOrder lower_spread
+spread_order = record { strict = spread_strict; transitive = spread_transitive; decides = spread_decides }
+
+pub standing_order : StrictOrder higher_standing
+standing_order = record { strict = standing_strict; transitive = standing_transitive; decides = standing_decides }
