@@ -1,5 +1,5 @@
 // Awards of a curve, exact amounts and cents.
-ghost use Rattle.std.specs.Prelude.{◌≡◌, pos, neg_ℤ, ◌≤ℤ◌};
+ghost use Rattle.std.specs.Prelude.{◌≡◌, pos, neg_ℤ, ◌≤ℤ◌, if◌then◌else◌, Some};
 ghost use Rattle.rules.specs.Awards.{is_met, award_of, exact_amount, cents_of};
 
 use market::bounded::{Average, DayAheadPrice, HeldQuantity};
@@ -17,15 +17,29 @@ pub fn is_met(side: Side, day_ahead: Price, segment: Segment) -> bool
     }
 }
 
+// The award once one more segment was looked at.
+fn award_after(
+    side: Side,
+    day_ahead: Price,
+    segment: Segment,
+    found: Option<Quantity>,
+) -> Option<Quantity>
+    ensures { result ≡ (if is_met side day_ahead segment then Some segment.end else found) }
+{
+    if is_met(side, day_ahead, segment) {
+        Some(segment.end)
+    } else {
+        found
+    }
+}
+
 /// The end of the last segment that a day-ahead price meets; none where it meets none.
 pub fn award_of(side: Side, curve: &[Segment], day_ahead: Price) -> Option<Quantity>
     ensures { result ≡ award_of side day_ahead curve.now }
 {
-    curve
-        .iter()
-        .filter(|segment| is_met(side, day_ahead, **segment))
-        .last()
-        .map(|segment| segment.end)
+    curve.iter().fold(None, |found, segment| {
+        award_after(side, day_ahead, *segment, found)
+    })
 }
 
 // What supply gains by an award; demand gains the negative.
