@@ -7,7 +7,7 @@ use Rattle.std.proofs.lemmas.Bool.{and_parts, and_from, and_left, and_right, cas
 use Rattle.market.specs.declared.fault.Cause.TheVariants.{Outside}
 use Rattle.lists.specs.declared.layout.Sizes.{Sizes}
 use Rattle.lists.specs.Counted.{is_among}
-use Rattle.std.specs.Result.{ResultUnwrapsOrElse}
+use Rattle.std.specs.Result.{result_unwrap_or}
 use Rattle.market.specs.declared.fault.Fault.{Fault}
 use Rattle.lists.specs.Lists.{num, cells, Passed, Refused, Checked}
 use Rattle.lists.proofs.Blocks.{second_fits}
@@ -109,9 +109,10 @@ abbrev pub Either : ℕ → List ℤ → Sizes → Type 0
 Either per xs s = Passed (feed_layout per) xs s ⊎ ((Whole per xs → ⊥) × (s.rows ≡ 0) × (s.columns ≡ 0))
 
 module _ (per : ℕ) (xs : List ℤ) (s : Sizes) where
-  pub either : (none : Sizes → Type 0) → (none s → (s.rows ≡ 0) × (s.columns ≡ 0)) → (r : Result Sizes Fault) → Checked (feed_layout per) xs r → ResultUnwrapsOrElse r none s → Either per xs s
+  pub either : (none : Sizes) → (none.rows ≡ 0) × (none.columns ≡ 0) → (r : Result Sizes Fault) → Checked (feed_layout per) xs r → s ≡ result_unwrap_or r none → Either per xs s
   either none zeros (Ok t) passed same = inl (subst (Passed (feed_layout per) xs) (sym same) passed)
-  either none zeros (Err f) (p, refused, said) is = inr (refused_not_whole per xs p refused, (zeros is).0, (zeros is).1)
+  either none zeros (Err f) (p, refused, said) same =
+      inr (refused_not_whole per xs p refused, subst (λ t. t.rows ≡ 0) (sym same) zeros.0, subst (λ t. t.columns ≡ 0) (sym same) zeros.1)
 
   pub either_stands : Either per xs s → Stands per xs (s.rows * s.columns)
   either_stands (inl passed) = passed_stands per xs s passed

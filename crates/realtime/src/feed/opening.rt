@@ -26,7 +26,10 @@ impl<'a, const PER: u8> Feed<'a, PER> {
         ensures takes_the_sizes { Opened PER list.now result.sizes.rows result.sizes.columns }
         ensures reads_the_list { ReadsAs PER list.now (feed_meaning PER result.list.now result.sizes.rows result.sizes.columns) }
     {
-        let sizes = Feed::<PER>::check(list).unwrap_or_default();
+        let sizes = Feed::<PER>::check(list).unwrap_or(Sizes {
+            rows: 0,
+            columns: 0,
+        });
         Feed { list, sizes }
     }
 

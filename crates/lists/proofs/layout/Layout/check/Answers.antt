@@ -1,7 +1,7 @@
 -- A number out of bounds in one of the blocks is the first of the list, since the sizes and what stands before it fit.
-use Rattle.std.proofs.Common.{◌≡◌, ◌+◌, length, take, drop, sym, ap, ◌∙◌, arith}
+use Rattle.std.proofs.Common.{◌≡◌, ◌+◌, length, take, drop, sym, ap, ◌∙◌, rules, arith}
 use Rattle.std.specs.Prelude.{position}
-use Rattle.std.proofs.lemmas.List.{length-drop}
+use Rattle.std.proofs.lemmas.List.{length-drop, take_all}
 use Rattle.lists.specs.Lists.{second_from, whole_length, out_of}
 use Rattle.lists.proofs.Blocks.{second_begins, list_ends, refused_in_first, refused_in_second, passed_both}
 use Rattle.lists.proofs.layout.Layout.check.Goals as goal
@@ -27,8 +27,9 @@ whole c e =
 -- what is looked for in a block is looked for in the list
 in_first : (c : After-first_outside) → position (out_of c.args.self.now.first.low c.args.self.now.first.high) (take c.length-begins.result (drop 2 c.args.list.now)) ≡ c.first_outside.result
 in_first c =
-    ap (position (out_of c.args.self.now.first.low c.args.self.now.first.high)) (sym (c.split_at.ensures.front ∙ ap (take c.length-begins.result) c.in_ok-sizes.ensures.rest))
-    ∙ sym c.first_outside.ensures
+    let front = c.split_at.ensures.front ∙ ap (take c.length-begins.result) c.in_ok-sizes.ensures.rest in
+    let looked : position (out_of c.args.self.now.first.low c.args.self.now.first.high) c.split_at.result.0.now ≡ c.first_outside.result = search (rules, take_all) in
+    ap (position (out_of c.args.self.now.first.low c.args.self.now.first.high)) (sym front) ∙ looked
 
 in_second : (c : After-first_outside-2) → position (out_of c.args.self.now.second.low c.args.self.now.second.high) (drop c.length-begins.result (drop 2 c.args.list.now)) ≡ c.first_outside-2.result
 in_second c =
