@@ -28,21 +28,15 @@ impl Entry {
         }
     }
 
-    /// The entry with a price for a side, in place of any before.
-    fn with(self, side: Side, price: Rate) -> Entry
+    /// Posts a price for a side, in place of any before.
+    fn post(&mut self, side: Side, price: Rate)
         requires { in_reference price ≡ true }
-        ensures posted { by_side result.supply result.demand side ≡ Some price }
-        ensures kept { KeepsTheOther side self result }
+        ensures posted { by_side self.new.supply self.new.demand side ≡ Some price }
+        ensures kept { KeepsTheOther side self.old self.new }
     {
         match side {
-            Side::Supply => Entry {
-                supply: Some(price),
-                demand: self.demand,
-            },
-            Side::Demand => Entry {
-                supply: self.supply,
-                demand: Some(price),
-            },
+            Side::Supply => self.supply = Some(price),
+            Side::Demand => self.demand = Some(price),
         }
     }
 }
@@ -75,8 +69,7 @@ impl Posted {
         if !is_reference(price) {
             return Err(refused);
         }
-        let entry = &mut self.entries[i];
-        *entry = entry.with(side, price);
+        self.entries[i].post(side, price);
         Ok(())
     }
 }

@@ -10,7 +10,7 @@ returns c =
     let z = to_z-of_z w64 c.args.price c.ranges.price in
     let among = simp l at c.in-Some.ensures in
     let fits = simp z at c.is_reference.ensures in
-    let new = simp z at c.with.ensures.posted in
+    let new = simp z at c.post.ensures.posted in
     let within : c.in-Some.i < length c.args.self.now.entries = search rules in
-    posted_one c.args.self.now.entries c.args.location c.in-Some.i c.index-self-i.result among.0 among.1 within c.args.side c.args.price c.with.result
-    (sym fits ∙ c.if-not-is_reference.false) new c.with.ensures.kept
+    posted_one c.args.self.now.entries c.args.location c.in-Some.i c.index-self-i.result among.0 among.1 within c.args.side c.args.price c.post.new.self
+    (sym fits ∙ c.if-not-is_reference.false) new c.post.ensures.kept
